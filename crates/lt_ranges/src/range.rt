@@ -1,0 +1,124 @@
+//! Ranges of keys.
+ghost use Rattle.std.specs.Prelude.{◌≡◌, ◌↔◌, IsTrue, IsErr, IfOk};
+ghost use Rattle.lt_ranges.specs.Key.{key_le};
+ghost use Rattle.lt_ranges.specs.Interval.{Interval, IsInterval, overlap, before, covers, hull, whole};
+ghost use Rattle.lt_ranges.specs.RangeOrder.{IsOrderOf};
+
+use crate::key::Key;
+use std::marker::Model;
+use thiserror::Error;
+
+/// The left end of a range was greater than its right one.
+#[derive(Debug, Drop, Error)]
+#[error("the left end is greater than the right one")]
+pub struct Backwards;
+
+/// How two ranges stand to each other.
+#[derive(Clone, Copy, Debug, PartialEq, Eq)]
+pub enum RangeOrder {
+    Equal,
+    Less,
+    Greater,
+    /// They overlap and aren't equal.
+    Overlaps,
+}
+
+/// The keys from a left end to a right one, both included.
+#[derive(Clone, Copy, Debug, PartialEq, Eq)]
+pub struct KeyRange {
+    left: Key,
+    right: Key,
+}
+
+impl Model for KeyRange {
+    ghost use Rattle.lt_ranges.specs.Interval.{Interval};
+    ghost use Rattle.lt_ranges.specs.Key.{key_le};
+    ghost use Rattle.std.specs.Prelude.{IsTrue};
+
+    ghost Value = { Interval };
+
+    ghost view = { λ r. record { left = r.left; right = r.right } };
+
+    ghost invariant = { λ r. IsTrue (key_le r.left r.right) };
+
+    ghost inverse = { λ a. record { left = a.left; right = a.right } };
+}
+
+impl KeyRange {
+    /// The range from left to right.
+    #[tactic(auto, unfolding(crate::specs::Key::key_le))]
+    pub fn new(left: Key, right: Key) -> Result<KeyRange, Backwards>
+        ensures refused { IsErr result ↔ (¬ IsTrue (key_le left right)) }
+        ensures value { IfOk result (λ range. range ≡ record { left = left; right = right }) }
+    {
+        if left <= right {
+            Ok(KeyRange { left, right })
+        } else {
+            Err(Backwards)
+        }
+    }
+
+    /// The range of all places.
+    #[tactic(auto, unfolding(crate::specs::Key::key_le))]
+    pub fn whole() -> KeyRange
+        ensures { result ≡ whole }
+    {
+        KeyRange {
+            left: Key::Below,
+            right: Key::Above,
+        }
+    }
+
+    pub fn left(&self) -> Key
+        ensures value { result ≡ self.now.left }
+        ensures ordered { IsInterval self.now }
+    {
+        self.left
+    }
+
+    pub fn right(&self) -> Key
+        ensures value { result ≡ self.now.right }
+        ensures ordered { IsInterval self.now }
+    {
+        self.right
+    }
+
+    #[tactic(auto, unfolding(crate::specs::Key::key_le))]
+    pub fn overlaps(&self, other: &KeyRange) -> bool
+        ensures { result ≡ overlap self.now other.now }
+    {
+        self.left <= other.right && other.left <= self.right
+    }
+
+    #[tactic(auto, unfolding(crate::specs::Key::key_le))]
+    pub fn covers(&self, other: &KeyRange) -> bool
+        ensures { result ≡ covers self.now other.now }
+    {
+        self.left <= other.left && other.right <= self.right
+    }
+
+    /// The least range that covers both.
+    pub fn hull(&self, other: &KeyRange) -> KeyRange
+        ensures { result ≡ hull self.now other.now }
+    {
+        KeyRange {
+            left: self.left.lesser(other.left),
+            right: self.right.greater(other.right),
+        }
+    }
+
+    #[tactic(auto, using(crate::proofs::IntervalLaws::apart_left, crate::proofs::IntervalLaws::apart_right))]
+    pub fn compare(&self, other: &KeyRange) -> RangeOrder
+        ensures { IsOrderOf self.now other.now result }
+    {
+        if self == other {
+            RangeOrder::Equal
+        } else if self.overlaps(other) {
+            RangeOrder::Overlaps
+        } else if self.left.is_at_most(&other.left) {
+            RangeOrder::Less
+        } else {
+            RangeOrder::Greater
+        }
+    }
+}
