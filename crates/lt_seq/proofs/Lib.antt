@@ -1,0 +1,5 @@
+pub mod HistoryLaws
+pub mod TableLaws
+pub mod PairsLaws
+pub mod SpanLaws
+pub mod LawfulLaws
