@@ -242,19 +242,26 @@ abbrev pub IsFirst : Option TraceFault → (TraceFault → Type 0) → TraceFaul
 IsFirst (Some found) Else f = f ≡ found
 IsFirst None Else f = Else f
 
--- the line that begins the rest, behind this front, has the fault; a header line has it too where nothing is left
-abbrev pub HasFault : Option HeaderForm → Front → List ℕ → TraceFault → Type 0
-HasFault (Some form) front [] f = f ≡ fault.BadHeader (1 + length front.header)
-HasFault (Some form) front (b ∷ bs) f =
+-- what is wrong with the header line that these bytes begin with; where nothing is left, the line is missing
+abbrev pub IsHeaderFault : HeaderForm → ℕ → List ℕ → TraceFault → Type 0
+IsHeaderFault form number [] f = f ≡ fault.BadHeader number
+IsHeaderFault form number (b ∷ bs) f =
     let text = first_line (b ∷ bs) in
-    let number = 1 + length front.header in
     IsFirst (fault_of_text number text) (λ g. IsNoHeader form text.bytes × (g ≡ fault.BadHeader number)) f
-HasFault None front [] f = ⊥
-HasFault None front (b ∷ bs) f =
+
+-- what is wrong with the body line that these bytes begin with, behind a header and these lines
+abbrev pub IsBodyFault : List ℕ → List Line → List ℕ → TraceFault → Type 0
+IsBodyFault header before [] f = ⊥
+IsBodyFault header before (b ∷ bs) f =
     let text = first_line (b ∷ bs) in
-    let number = 5 + length front.lines in
+    let number = 5 + length before in
     IsFirst (fault_of_text number text)
-      (λ g. (form : Option Line) × Forms (version_in front.header) text.bytes form × (fault_of_form number (trees_in front.header) front.lines form ≡ Some g)) f
+      (λ g. (form : Option Line) × Forms (version_in header) text.bytes form × (fault_of_form number (trees_in header) before form ≡ Some g)) f
+
+-- the line that the rest begins with, behind this front, has the fault
+abbrev pub HasFault : Option HeaderForm → Front → List ℕ → TraceFault → Type 0
+HasFault (Some form) front rest f = IsHeaderFault form (1 + length front.header) rest f
+HasFault None front rest f = IsBodyFault front.header front.lines rest f
 
 -- the first faulty line has this fault first: the lines before it have none
 abbrev pub IsFirstFault : List ℕ → TraceFault → Type 0

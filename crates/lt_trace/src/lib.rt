@@ -1,10 +1,13 @@
 //! Traces: what transactions do, line by line.
 #![tactic(auto)]
 
+mod cut;
 pub mod fault;
+mod header;
 pub mod laws;
 pub mod line;
 pub mod numbers;
+mod text_line;
 pub mod trace;
 
 pub use fault::TraceFault;
