@@ -1,10 +1,6 @@
 -- A text is cut in one way at the first of a byte.
-use Rattle.std.proofs.Common.{◌≡◌, ◌≢◌, ℕ, ◌+◌, ◌<◌, List, [], ◌∷◌, ◌++◌, Bool, true, false, eqb, Option, Some, None, MatchOption, Bor, length, take, drop, get_or, sym, ap, subst, ◌∙◌, refl, arith, append_assoc}
-use Rattle.std.proofs.Math.Seq.{take-append_seam}
-use Rattle.std.proofs.lemmas.Bool.{false≢true}
-use Rattle.std.proofs.lemmas.Bool.Decides.{Decides-eqb, nat_tests}
-use Rattle.std.proofs.lemmas.Slice.Eq.{slice_eq-Decides}
-use Rattle.std.specs.Cmp.Lexicographic.{pointwise}
+use Rattle.std.proofs.Common.{◌≡◌, ◌≢◌, ℕ, ◌+◌, ◌<◌, List, [], ◌∷◌, ◌++◌, Bool, true, false, eqb, length, take, drop, get_or, sym, ap, subst, ◌∙◌, refl, arith, append_assoc}
+use Rattle.std.proofs.lemmas.Bool.Decides.{nat_tests}
 use Rattle.lt_trace.specs.Grammar.{first_line, TextLine}
 use Rattle.std.proofs.lemmas.List.{take_more, drop_more, take-append-drop}
 use Rattle.std.specs.List.{AllByRecursion}
@@ -38,16 +34,6 @@ lacks_more b xs i h lacks other = rw (take_more xs i 0 h) (lacks_append b (take 
 pub cut_at : (b : ℕ) (xs : List ℕ) (i : ℕ) → i < length xs → get_or xs i 0 ≡ b → xs ≡ take i xs ++ b ∷ drop (i + 1) xs
 cut_at b xs i h is = sym (take-append-drop i xs) ∙ ap (λ ys. take i xs ++ ys) (drop_more xs i 0 h ∙ ap (λ y. y ∷ drop (i + 1) xs) is)
 
--- what `strip_prefix` answers
-pub strip_cases : (text front : List ℕ) (r : Option (Bor (List ℕ))) → MatchOption r (pointwise eqb (take (length front) text) front ≡ false) (λ x. (pointwise eqb (take (length front) text) front ≡ true) × (x.now ≡ drop (length front) text) × (length x.now + length front ≡ length text)) → MatchOption r ((rest : List ℕ) → text ≡ front ++ rest → ⊥) (λ x. text ≡ front ++ x.now)
-strip_cases text front None differs = λ rest is.
-    let same : take (length front) text ≡ front = ap (take (length front)) is ∙ take-append_seam front rest in
-    let alike = (slice_eq-Decides Decides-eqb (take (length front) text) front (pointwise eqb (take (length front) text) front) refl).1 same in
-    absurd (false≢true (sym differs ∙ alike))
-strip_cases text front (Some x) same_front =
-    let same = (slice_eq-Decides Decides-eqb (take (length front) text) front (pointwise eqb (take (length front) text) front) refl).0 same_front.0 in
-    sym (take-append-drop (length front) text) ∙ ap (λ ys. ys ++ drop (length front) text) same ∙ ap (λ ys. front ++ ys) (sym same_front.1)
-
 -- where no newline comes, all is one line without an end
 pub first_line_all : (text : List ℕ) → Lacks 10 text → first_line text ≡ record { bytes = text; ended = false }
 first_line_all [] lacks = refl
@@ -57,3 +43,14 @@ first_line_all (b ∷ bs) lacks = rw (eqb-no b 10 lacks.0, first_line_all bs lac
 pub first_line_cut : (text rest : List ℕ) → Lacks 10 text → first_line (text ++ 10 ∷ rest) ≡ record { bytes = text; ended = true }
 first_line_cut [] rest lacks = refl
 first_line_cut (b ∷ bs) rest lacks = rw (eqb-no b 10 lacks.0, first_line_cut bs rest lacks.1)
+
+-- two texts that are one end with one byte
+pub last_once : (xs ys : List ℕ) (x y : ℕ) → xs ++ x ∷ [] ≡ ys ++ y ∷ [] → x ≡ y
+last_once [] [] x y e = cc
+last_once [] (b ∷ []) x y e = cc
+last_once [] (b ∷ c ∷ ys) x y e = cc
+last_once (a ∷ []) [] x y e = cc
+last_once (a ∷ c ∷ xs) [] x y e = cc
+last_once (a ∷ xs) (b ∷ ys) x y e =
+    let rest : xs ++ x ∷ [] ≡ ys ++ y ∷ [] = cc in
+    last_once xs ys x y rest

@@ -3,7 +3,9 @@
 
 mod cut;
 pub mod fault;
+pub mod form;
 mod header;
+mod key_words;
 pub mod laws;
 pub mod line;
 pub mod numbers;

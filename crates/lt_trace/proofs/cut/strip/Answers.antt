@@ -1,5 +1,6 @@
-use Rattle.lt_trace.proofs.CutLaws.{strip_cases}
+use Rattle.std.proofs.lemmas.Bool.Decides.{Decides-eqb}
+use Rattle.std.proofs.lemmas.Slice.Eq.{strip_prefix_is}
 use Rattle.lt_trace.proofs.cut.strip.Goals as goal
 
 pub returns : goal.returns
-returns c = strip_cases c.args.text.now c.args.front.now c.strip_prefix.result c.strip_prefix.ensures.cases
+returns c = strip_prefix_is Decides-eqb c.args.text.now c.args.front.now c.strip_prefix.result c.strip_prefix.ensures.cases
