@@ -1,3 +1,4 @@
 pub mod KeyLaws
 pub mod IntervalLaws
 pub mod KeyParts
+pub mod KeyTextLaws
