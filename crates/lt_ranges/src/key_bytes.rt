@@ -51,6 +51,13 @@ impl KeyBytes {
         Ok(KeyBytes { store })
     }
 
+    /// The bytes of a store.
+    pub(crate) fn of(store: ByteStore<MOST_KEY_BYTES>) -> KeyBytes
+        ensures { result ≡ store }
+    {
+        KeyBytes { store }
+    }
+
     /// The bytes.
     pub fn as_slice(&self) -> &[u8]
         ensures value { result.now ≡ self.now }
