@@ -3,7 +3,7 @@ use Rattle.std.proofs.Common.{◌≡◌, ◌≢◌, ℕ, ◌+◌, ◌-◌, ◌�
 use Rattle.std.specs.Prelude.{Result, Ok, Err, IfErr, IsTrue, nat_lt}
 use Rattle.std.proofs.lemmas.Bool.Decides.{nat_tests}
 use Rattle.std.proofs.lemmas.Grind.{common_steps}
-use Rattle.std.proofs.lemmas.List.{get_or_at, append_cancel_right}
+use Rattle.std.proofs.lemmas.List.{get_or_at, take_more, append_cancel_right}
 use Rattle.lt_ranges.specs.declared.text_fault.TextFault.{TextFault}
 use Rattle.lt_ranges.specs.declared.text_fault.TextFault.TheVariants.{NotText, TooLong}
 use Rattle.lt_ranges.specs.declared.key.Key.{Key}
@@ -54,6 +54,10 @@ same_front (x ∷ xs) (y ∷ ys) a b e =
     let rest = same_front xs ys a b tails in
     ((λ i. heads i ∷ rest.0 i), rest.1)
 
+-- a text that ends with a star is what stands before it, and the star
+pub starred_by_end : (text : List ℕ) → 1 ≤ length text → get_or text (length text - 1) 0 ≡ 42 → text ≡ take (length text - 1) text ++ 42 ∷ []
+starred_by_end text h e = grind (arith, common_steps, take_more text (length text - 1) 0)
+
 is_long_by : (bytes : List ℕ) → 63 < length bytes → IsTrue (nat_lt 63 (length bytes))
 is_long_by bytes h = grind (arith, nat_tests)
 
@@ -69,12 +73,14 @@ fault_with_star text front NotText e none = by
 fault_with_star text front TooLong e long = (After long.0, long.1, is_long_by long.0 long.2, e ∙ ap (λ f. f ++ 42 ∷ []) long.3)
 
 -- what is wrong with any other text
-pub fault_without_star : (text : List ℕ) (fault : TextFault) → text ≢ 45 ∷ [] → text ≢ 43 ∷ [] → get_or text (length text - 1) 0 ≢ 42 → IsFaultOf quoted text fault → IsTextFault text fault
+pub fault_without_star : (text : List ℕ) (fault : TextFault) → text ≢ 45 ∷ [] → text ≢ 43 ∷ [] → (1 ≤ length text → get_or text (length text - 1) 0 ≢ 42) → IsFaultOf quoted text fault → IsTextFault text fault
 fault_without_star text NotText below above star none = by
   where
     by : (key : Key) → IsOfBytes key → text ≢ key_text key
     by Below are same = below same
     by (Bytes bytes) are same = none bytes are same
-    by (After bytes) are same = star (ap (λ t. get_or t (length text - 1) 0) same ∙ get_or_at (quoted bytes) 42 [] 0 (length text - 1) (omega (arith, ap length same, length-append (quoted bytes) (42 ∷ []))))
+    by (After bytes) are same =
+        let long : length text ≡ length (quoted bytes) + 1 = omega (arith, ap length same, length-append (quoted bytes) (42 ∷ [])) in
+        star (omega arith) (ap (λ t. get_or t (length text - 1) 0) same ∙ get_or_at (quoted bytes) 42 [] 0 (length text - 1) (omega arith))
     by Above are same = above same
 fault_without_star text TooLong below above star long = (Bytes long.0, long.1, is_long_by long.0 long.2, long.3)
