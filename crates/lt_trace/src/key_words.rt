@@ -3,7 +3,6 @@ ghost use Rattle.std.specs.Prelude.{◌≡◌, ◌≢◌, ℕ, ◌≤◌, List, 
 ghost use Rattle.lt_ranges.specs.declared.key.Key.{Key};
 ghost use Rattle.lt_ranges.specs.Interval.{Interval};
 ghost use Rattle.lt_ranges.specs.KeyText.{IsOfBytes, is_long, key_text};
-ghost use Rattle.lt_ranges.specs.TextFault.{IsTextFault};
 ghost use Rattle.lt_trace.specs.Grammar.{IsKeyForm, IsRangeForm};
 ghost use Rattle.lt_trace.specs.Reading.{IsKeyWord, AreEnds};
 
@@ -24,12 +23,6 @@ pub(crate) enum Ends {
     Long,
 }
 
-fn stub_read(text: &[u8]) -> Result<Key, TextFault>
-    ensures { MatchResult result (λ key. IsOfBytes key × (is_long key ≡ false) × (text.now ≡ key_text key)) (IsTextFault text.now) }
-{
-    Err(TextFault::NotText)
-}
-
 /// Whether the last byte is a star, as in the text of a prefix endpoint alone.
 fn has_star(text: &[u8]) -> bool
     ensures { MatchBool result ((front : List ℕ) × (text.now ≡ front ++ 42 ∷ [])) ((front : List ℕ) → text.now ≢ front ++ 42 ∷ []) }
@@ -44,7 +37,7 @@ fn read_key(version: u32, text: &[u8]) -> Option<KeyWord>
     if version < 2 && has_star(text) {
         return None;
     }
-    match stub_read(text) {
+    match Key::read(text) {
         Ok(key) => Some(KeyWord::Fits(key)),
         Err(TextFault::TooLong) => Some(KeyWord::Long),
         Err(TextFault::NotText) => None,
