@@ -7,7 +7,10 @@ use Rattle.lt_trace.specs.Grammar.{HeaderForm, header_forms, header_text, AreInF
 -- behind header lines without a fault, the next one's fault is the first
 pub header_fault : (ns : List ℕ) (form : HeaderForm) (bytes rest : List ℕ) (f : TraceFault) → next_form header_forms ns ≡ Some form → AreInForm header_forms ns → bytes ≡ header_text header_forms ns ++ rest → IsHeaderFault form (1 + length ns) rest f → IsFirstFault bytes f
 header_fault ns form bytes rest f next in_form is wrong =
-    let front : Front = record { header = ns; lines = [] } in
-    (front, rest, record { header = in_form; body = tt },
-     is ∙ ap (λ xs. xs ++ rest) (sym (append-nil (header_text header_forms ns))),
-     subst (λ o. HasFault o front rest f) (sym next) wrong)
+    let front : Front = record { header = ns; lines = [] } in (
+      front,
+      rest,
+      record { header = in_form; body = tt },
+      is ∙ ap (λ xs. xs ++ rest) (sym (append-nil (header_text header_forms ns))),
+      subst (λ o. HasFault o front rest f) (sym next) wrong,
+    )

@@ -36,7 +36,7 @@ up_with n (m ∷ ms) up =
     chosen IsUp (ltb n m) (n ∷ m ∷ ms) (cond (eqb n m) (m ∷ ms) (m ∷ with_number n ms))
     (λ below. let h : n < m = grind (arith, nat_tests) in ((h, all_above n m ms h up.0), up))
     (λ not_below. chosen IsUp (eqb n m) (m ∷ ms) (m ∷ with_number n ms) (λ _. up)
-      (λ other. let h : m < n = grind (arith, nat_tests) in (above_with m n ms h up.0, rest)))
+    (λ other. let h : m < n = grind (arith, nat_tests) in (above_with m n ms h up.0, rest)))
 
 or_swap : (a b c : Bool) → (a || (b || c)) ≡ (b || (a || c))
 or_swap true true c = refl
@@ -89,7 +89,7 @@ length_with n (m ∷ ms) up =
     (length_with n ms up.1)
   where
     by_case : (below same : Bool) → (below ≡ true → (eqb m n || is_in n ms) ≡ false) → (same ≡ true → true ≡ eqb m n) → (same ≡ false → eqb m n ≡ false) → length (with_number n ms) ≡ length ms + cond (is_in n ms) 0 1
-      → length (cond below (n ∷ m ∷ ms) (cond same (m ∷ ms) (m ∷ with_number n ms))) ≡ suc (length ms) + cond (eqb m n || is_in n ms) 0 1
+        → length (cond below (n ∷ m ∷ ms) (cond same (m ∷ ms) (m ∷ with_number n ms))) ≡ suc (length ms) + cond (eqb m n || is_in n ms) 0 1
     by_case true same none equal apart rest = rw (none refl) (omega arith)
     by_case false true none equal apart rest = rw (← (equal refl)) (omega arith)
     by_case false false none equal apart rest = rw (apart refl) (omega arith)

@@ -1,6 +1,7 @@
 -- The grammar of traces: how each one is spelled, and which line of other bytes is the first faulty one.
 use Rattle.std.specs.Prelude.{◌≡◌, ◌≢◌, ℕ, ◌+◌, ◌^◌, ◌<◌, ◌≤◌, List, [], ◌∷◌, ◌++◌, map, length, Option, Some, None, Bool, true, false, ◌&&◌, ◌||◌, ◌==◌, not, nat_lt, nat_le, if◌then◌else◌, codes, decimal}
-use Rattle.std.specs.List.{AllByRecursion, flat_map, list_any}
+use Rattle.std.specs.List.{flat_map, list_any}
+use Rattle.std.specs.Option.{option_or}
 use Rattle.lt_ranges.specs.declared.key.Key.{Key}
 use Rattle.lt_ranges.specs.declared.key.Key.TheVariants.{Below, Bytes, After, Above}
 use Rattle.lt_ranges.specs.Key.{key_le}
@@ -164,16 +165,25 @@ fault_of_text number text =
     else if not text.ended then Some (fault.NoFinalNewline number)
     else None
 
--- and those that go by what a body line says, behind these lines
+-- those that go by what a body line asks for
+abbrev pub fault_of_deed : ℕ → ℕ → LineDeed → Option TraceFault
+fault_of_deed number trees deed =
+    if is_outside trees deed then Some (fault.TreeOutOfRange number)
+    else if has_long_key deed then Some (fault.KeyTooLong number)
+    else if is_backwards deed then Some (fault.Backwards number)
+    else None
+
+-- and those that go by whose line it is, behind these lines
+abbrev pub fault_of_turn : ℕ → List Line → ℕ → Option TraceFault
+fault_of_turn number before txn =
+    if has_ended txn before then Some (fault.AfterEnd number)
+    else if not (has_begun txn before) && nat_le 1024 (length (txns_of before)) then Some (fault.TooManyTxns number)
+    else None
+
+-- the rows of a body line, behind these lines
 abbrev pub fault_of_form : ℕ → ℕ → List Line → Option Line → Option TraceFault
 fault_of_form number trees before None = Some (fault.BadLine number)
-fault_of_form number trees before (Some line) =
-    if is_outside trees line.deed then Some (fault.TreeOutOfRange number)
-    else if has_long_key line.deed then Some (fault.KeyTooLong number)
-    else if is_backwards line.deed then Some (fault.Backwards number)
-    else if has_ended line.txn before then Some (fault.AfterEnd number)
-    else if not (has_begun line.txn before) && nat_le 1024 (length (txns_of before)) then Some (fault.TooManyTxns number)
-    else None
+fault_of_form number trees before (Some line) = option_or (fault_of_deed number trees line.deed) (fault_of_turn number before line.txn)
 
 -- Traces, and what lines before a faulty one may be.
 
@@ -256,7 +266,7 @@ IsBodyFault header before (b ∷ bs) f =
     let text = first_line (b ∷ bs) in
     let number = 5 + length before in
     IsFirst (fault_of_text number text)
-      (λ g. (form : Option Line) × Forms (version_in header) text.bytes form × (fault_of_form number (trees_in header) before form ≡ Some g)) f
+    (λ g. (form : Option Line) × Forms (version_in header) text.bytes form × (fault_of_form number (trees_in header) before form ≡ Some g)) f
 
 -- the line that the rest begins with, behind this front, has the fault
 abbrev pub HasFault : Option HeaderForm → Front → List ℕ → TraceFault → Type 0
@@ -269,7 +279,11 @@ IsFirstFault bytes f =
     (front : Front) × (rest : List ℕ) × IsFront front × (bytes ≡ front_text front ++ rest)
     × HasFault (next_form header_forms front.header) front rest f
 
+-- memory ran out, or the fault is one of these
+abbrev pub OrNoMemory : (TraceFault → Type 0) → TraceFault → Type 0
+OrNoMemory Is fault.OutOfMemory = Unit {0}
+OrNoMemory Is f = Is f
+
 -- a refusal names the first fault, or memory ran out
 abbrev pub Refuses : List ℕ → TraceFault → Type 0
-Refuses bytes fault.OutOfMemory = Unit {0}
-Refuses bytes f = IsFirstFault bytes f
+Refuses bytes f = OrNoMemory (IsFirstFault bytes) f

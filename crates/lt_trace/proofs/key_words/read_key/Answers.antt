@@ -10,8 +10,8 @@ use Rattle.lt_trace.proofs.key_words.read_key.Goals.{After-read, else-version-lt
 kind : (c : After-read) (key : Key) → c.args.text.now ≡ key_text key → HasKind c.args.version key
 kind c key is =
     elim c.else-version-lt2.branch [
-      else-version-lt2-via-then-version-lt2+else-has_star w ↦ kind_without_star c.args.version key (λ front star. w.if-has_star.ensures front (is ∙ star))
-    | else-version-lt2-via-else-version-lt2 w ↦ kind_of_later c.args.version key (omega arith)
+      | else-version-lt2-via-then-version-lt2+else-has_star w ↦ kind_without_star c.args.version key (λ front star. w.if-has_star.ensures front (is ∙ star))
+      | else-version-lt2-via-else-version-lt2 w ↦ kind_of_later c.args.version key (omega arith)
     ]
 
 pub returns-in-Ok : goal.returns-in-Ok

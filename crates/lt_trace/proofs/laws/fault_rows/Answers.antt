@@ -27,13 +27,27 @@ is_header = record { header = (lit≤ tt, lit≤ tt, (lit≤ tt, lit≤ tt, (lit
 pub returns : goal.returns
 unfolding key_le digits header ended tried
 returns c = record {
-  backwards = (header [], codes "1 try 0 \"b\" \"a\"\n", is_header, refl,
-    (Some (tried 0 98 97), (record { least = lit≤ tt; most = lit< tt; deed = (lit< tt, (one_byte 98 (lit< tt), one_byte 97 (lit< tt))) }, refl), refl));
-  outside = (header [], codes "1 try 1 \"a\" \"a\"\n", is_header, refl,
-    (Some (tried 1 97 97), (record { least = lit≤ tt; most = lit< tt; deed = (lit< tt, (one_byte 97 (lit< tt), one_byte 97 (lit< tt))) }, refl), refl));
-  after_end = (header (ended ∷ []), codes "1 end\n",
-    record { header = is_header.header; body = (refl, (record { form = record { least = lit≤ tt; most = lit< tt; deed = tt }; number = refl; text = refl; says = refl }, tt)) }, refl,
-    (Some ended, (record { least = lit≤ tt; most = lit< tt; deed = tt }, refl), refl));
+  backwards = (
+    header [],
+    codes "1 try 0 \"b\" \"a\"\n",
+    is_header,
+    refl,
+    (Some (tried 0 98 97), (record { least = lit≤ tt; most = lit< tt; deed = (lit< tt, (one_byte 98 (lit< tt), one_byte 97 (lit< tt))) }, refl), refl),
+  );
+  outside = (
+    header [],
+    codes "1 try 1 \"a\" \"a\"\n",
+    is_header,
+    refl,
+    (Some (tried 1 97 97), (record { least = lit≤ tt; most = lit< tt; deed = (lit< tt, (one_byte 97 (lit< tt), one_byte 97 (lit< tt))) }, refl), refl),
+  );
+  after_end = (
+    header (ended ∷ []),
+    codes "1 end\n",
+    record { header = is_header.header; body = (refl, (record { form = record { least = lit≤ tt; most = lit< tt; deed = tt }; number = refl; text = refl; says = refl }, tt)) },
+    refl,
+    (Some ended, (record { least = lit≤ tt; most = lit< tt; deed = tt }, refl), refl),
+  );
   no_newline = (header [], codes "1 end", is_header, refl, refl);
   empty = (record { header = []; lines = [] }, [], record { header = tt; body = tt }, refl, refl);
   cut = (record { header = 1 ∷ []; lines = [] }, [], record { header = (lit≤ tt, lit≤ tt, tt); body = tt }, refl, refl);
