@@ -4,3 +4,4 @@ pub mod KeyParts
 pub mod KeyTextLaws
 pub mod HowFar
 pub mod Quoting
+pub mod PrefixLaws

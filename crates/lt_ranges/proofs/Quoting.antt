@@ -9,6 +9,7 @@ use Rattle.lt_ranges.specs.declared.text_fault.TextFault.TheVariants.{NotText, T
 use Rattle.lt_ranges.specs.declared.key.Key.{Key}
 use Rattle.lt_ranges.specs.declared.key.Key.TheVariants.{Below, Bytes, After, Above}
 use Rattle.lt_ranges.specs.KeyText.{spelled, quoted, key_text, IsOfBytes}
+use Rattle.lt_ranges.proofs.KeyTextLaws.{spelled_once}
 use Rattle.lt_ranges.specs.TextFault.{IsFaultOf, IsTextFault}
 
 -- a text between two quotation marks begins and ends with one
@@ -84,3 +85,26 @@ fault_without_star text NotText below above star none = by
         star (omega arith) (ap (λ t. get_or t (length text - 1) 0) same ∙ get_or_at (quoted bytes) 42 [] 0 (length text - 1) (omega arith))
     by Above are same = above same
 fault_without_star text TooLong below above star long = (Bytes long.0, long.1, is_long_by long.0 long.2, long.3)
+
+first : {xs ys : List ℕ} → xs ≡ ys → get_or xs 0 0 ≡ get_or ys 0 0
+first e = ap (λ t. get_or t 0 0) e
+
+-- keys of one text are the same key
+pub text_once : (x y : Key) → IsOfBytes x → IsOfBytes y → key_text x ≡ key_text y → x ≡ y
+text_once Below Below h k e = refl
+text_once Below (Bytes ys) h k e = absurd (omega (arith, first e))
+text_once Below (After ys) h k e = absurd (omega (arith, first e))
+text_once Below Above h k e = absurd (omega (arith, first e))
+text_once (Bytes xs) Below h k e = absurd (omega (arith, first e))
+text_once (Bytes xs) (Bytes ys) h k e = ap Bytes (spelled_once xs ys h k (same_inside (spelled xs) (spelled ys) e))
+text_once (Bytes xs) (After ys) h k e = absurd (omega (arith, (same_front (34 ∷ spelled xs) (quoted ys) 34 42 e).1))
+text_once (Bytes xs) Above h k e = absurd (omega (arith, first e))
+text_once (After xs) Below h k e = absurd (omega (arith, first e))
+text_once (After xs) (Bytes ys) h k e = absurd (omega (arith, (same_front (quoted xs) (34 ∷ spelled ys) 42 34 e).1))
+text_once (After xs) (After ys) h k e =
+    ap After (spelled_once xs ys h k (same_inside (spelled xs) (spelled ys) (same_front (quoted xs) (quoted ys) 42 42 e).0))
+text_once (After xs) Above h k e = absurd (omega (arith, first e))
+text_once Above Below h k e = absurd (omega (arith, first e))
+text_once Above (Bytes ys) h k e = absurd (omega (arith, first e))
+text_once Above (After ys) h k e = absurd (omega (arith, first e))
+text_once Above Above h k e = refl
