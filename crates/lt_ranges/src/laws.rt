@@ -22,7 +22,7 @@ pub fn prefix_endpoints_come_last()
 {
 }
 
-#[tactic(auto, using(crate::proofs::Quoting::text_once))]
+#[tactic(auto, using(crate::proofs::KeyTextLaws::text_once))]
 /// No two keys have one text.
 pub fn texts_are_unique()
     ensures { (x y : Key) → IsOfBytes x → IsOfBytes y → key_text x ≡ key_text y → x ≡ y }
