@@ -61,7 +61,7 @@ unfolding key_le
 prefix_below front Below h k = cc
 prefix_below front (Bytes xs) h k =
     let least : is_le (ordering_reverse (slice_cmp nat_cmp xs front)) ≡ true =
-        ap is_le (sym (nat_list_cmp_total.antisymm front xs) ∙ bytes_cmp front xs) ∙ k in
+    ap is_le (sym (nat_list_cmp_total.antisymm front xs) ∙ bytes_cmp front xs) ∙ k in
     let apart : is_eq (slice_cmp nat_cmp xs front) ≡ false = sym (texts_ties xs front) ∙ unlike xs front h in
     ap is_le (before_end xs front) ∙ ap (λ b. is_le (cond b Less (slice_cmp nat_cmp xs front))) h
     ∙ not_less (slice_cmp nat_cmp xs front) least apart

@@ -15,7 +15,7 @@ use thiserror::Error;
 pub const MOST_KEY_BYTES: usize = 63;
 
 /// A key was longer than 63 bytes.
-#[derive(Debug, Drop, Error)]
+#[derive(Clone, Copy, Debug, PartialEq, Eq, Error)]
 #[error("a key has at most 63 bytes")]
 pub struct KeyTooLong;
 

@@ -18,6 +18,7 @@ returns-in_default-clause-fault c bytes are same =
     let long = quoted_length c.args.text.now (spelled bytes) same in
     let ends = quoted_ends c.args.text.now (spelled bytes) same in
     elim c.in_default.branch [
-    in_default-via-then-text-lt2 w ↦ grind arith
-    | in_default-via-else-text-lt2+in-34+in_default-1 w ↦ grind arith
-    | in_default-via-else-text-lt2+in_default-1 w ↦ grind arith ]
+      | in_default-via-then-text-lt2 w ↦ grind arith
+      | in_default-via-else-text-lt2+in-34+in_default-1 w ↦ grind arith
+      | in_default-via-else-text-lt2+in_default-1 w ↦ grind arith
+    ]
