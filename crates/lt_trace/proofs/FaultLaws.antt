@@ -87,3 +87,94 @@ no_fault front rest f (inl more) wrong =
     header_fine more.form (1 + length front.header) more.number more.behind rest f plain (omega arith) more.least more.most more.begins (subst (λ o. HasFault o front rest f) more.next wrong)
 no_fault front rest f (inr more) wrong =
     body_fine front.header front.lines more.1.line more.1.behind rest f more.1.good more.1.begins (subst (λ o. HasFault o front rest f) more.0 wrong)
+
+-- A line has one fault at the most.
+
+one_first : (found : Option TraceFault) (Else : TraceFault → Type 0) (f g : TraceFault) → ((d e : TraceFault) → Else d → Else e → d ≡ e) → IsFirst found Else f → IsFirst found Else g → f ≡ g
+one_first (Some d) Else f g once is other = is ∙ sym other
+one_first None Else f g once is other = once f g is other
+
+one_header_fault : (form : HeaderForm) (number : ℕ) (rest : List ℕ) (f g : TraceFault) → IsHeaderFault form number rest f → IsHeaderFault form number rest g → f ≡ g
+one_header_fault form number [] f g is other = is ∙ sym other
+one_header_fault form number (b ∷ bs) f g is other =
+    one_first (fault_of_text number (first_line (b ∷ bs))) (λ d. IsNoHeader form (first_line (b ∷ bs)).bytes × (d ≡ fault.BadHeader number)) f g (λ d e one two. one.1 ∙ sym two.1) is other
+
+one_form_fault : (version number trees : ℕ) (before : List Line) (text : List ℕ) (d e : TraceFault) (one other : Option Line)
+  → Forms version text one → fault_of_form number trees before one ≡ Some d → Forms version text other → fault_of_form number trees before other ≡ Some e → d ≡ e
+one_form_fault version number trees before text d e None None one first other second = cc
+one_form_fault version number trees before text d e None (Some l) one first other second = absurd (one l other.0 other.1)
+one_form_fault version number trees before text d e (Some k) None one first other second = absurd (other k one.0 one.1)
+one_form_fault version number trees before text d e (Some k) (Some l) one first other second =
+    let same : Some d ≡ Some e = sym first ∙ same_faults version number trees before text k l one other ∙ second in
+    cc
+
+one_body_fault : (header : List ℕ) (before : List Line) (rest : List ℕ) (f g : TraceFault) → IsBodyFault header before rest f → IsBodyFault header before rest g → f ≡ g
+one_body_fault header before [] f g is other = absurd is
+one_body_fault header before (b ∷ bs) f g is other =
+    let text = first_line (b ∷ bs) in
+    let number = 5 + length before in
+    one_first (fault_of_text number text) (λ d. (form : Option Line) × Forms (version_in header) text.bytes form × (fault_of_form number (trees_in header) before form ≡ Some d)) f g
+      (λ d e one two. one_form_fault (version_in header) number (trees_in header) before text.bytes d e one.0 two.0 one.1 one.2 two.1 two.2) is other
+
+one_fault_there : (next : Option HeaderForm) (front : Front) (rest : List ℕ) (f g : TraceFault) → HasFault next front rest f → HasFault next front rest g → f ≡ g
+one_fault_there (Some form) front rest f g is other = one_header_fault form (1 + length front.header) rest f g is other
+one_fault_there None front rest f g is other = one_body_fault front.header front.lines rest f g is other
+
+-- The laws.
+
+not_empty : (xs : List ℕ) (b : ℕ) (ys : List ℕ) → [] ≡ xs ++ b ∷ ys → ⊥
+not_empty [] b ys e = cc
+not_empty (x ∷ xs) b ys e = cc
+
+-- nothing goes on behind a trace
+trace_ends : (trace : TraceView) → GoesOn (whole trace) [] → ⊥
+trace_ends trace (inl more) = let next = more.next in cc
+trace_ends trace (inr more) = not_empty (line_text more.1.line) 10 more.1.behind more.1.begins
+
+no_fault_behind : (trace : TraceView) (front : Front) (f : TraceFault) → whole trace ≡ front → HasFault (next_form header_forms front.header) front [] f → ⊥
+no_fault_behind trace front f same wrong = subst (λ g. HasFault (next_form header_forms g.header) g [] f) (sym same) wrong
+
+pub spelled_not_refused : (bytes : List ℕ) (trace : TraceView) (f : TraceFault) → Spells bytes trace → IsFirstFault bytes f → ⊥
+spelled_not_refused bytes trace f spelled refused =
+    let front = refused.0 in
+    let rest = refused.1 in
+    let both = append-nil (front_text (whole trace)) ∙ sym spelled.1 ∙ refused.3 in
+    ⊎_elim
+    (λ same. no_fault_behind trace front f same.0 (subst (λ xs. HasFault (next_form header_forms front.header) front xs f) (sym same.1) refused.4))
+    (λ more. ⊎_elim (λ h. trace_ends trace h) (λ h. no_fault front rest f h refused.4) more)
+    (front_split (whole trace) front [] rest spelled.0 refused.2 both)
+
+abbrev made : ℕ → ℕ → ℕ → ℕ → List Line → TraceView
+made version trees limit buffer lines = record { version = version; trees = trees; limit = limit; buffer = buffer; lines = lines }
+
+same_trace : (a b : TraceView) → whole a ≡ whole b → a ≡ b
+same_trace a b e =
+    let header = ap (λ (f : Front). f.header) e in
+    let lines = ap (λ (f : Front). f.lines) e in
+    let version : a.version ≡ b.version = cc in
+    let trees : a.trees ≡ b.trees = cc in
+    let limit : a.limit ≡ b.limit = cc in
+    let buffer : a.buffer ≡ b.buffer = cc in
+    ap (λ v. made v a.trees a.limit a.buffer a.lines) version ∙ ap (λ t. made b.version t a.limit a.buffer a.lines) trees
+    ∙ ap (λ l. made b.version b.trees l a.buffer a.lines) limit ∙ ap (λ n. made b.version b.trees b.limit n a.lines) buffer
+    ∙ ap (λ ls. made b.version b.trees b.limit b.buffer ls) lines
+
+pub one_trace : (bytes : List ℕ) (a b : TraceView) → Spells bytes a → Spells bytes b → a ≡ b
+one_trace bytes a b one other =
+    ⊎_elim
+    (λ same. same_trace a b same.0)
+    (λ more. absurd (⊎_elim (λ h. trace_ends a h) (λ h. trace_ends b h) more))
+    (front_split (whole a) (whole b) [] [] one.0 other.0 (append-nil (front_text (whole a)) ∙ sym one.1 ∙ other.1 ∙ sym (append-nil (front_text (whole b)))))
+
+one_fault_of : (f g : Front) (r s : List ℕ) (d e : TraceFault) → f ≡ g → r ≡ s → HasFault (next_form header_forms f.header) f r d → HasFault (next_form header_forms g.header) g s e → d ≡ e
+one_fault_of f g r s d e same rest is other =
+    let there = subst (λ h. HasFault (next_form header_forms h.header) h s e) (sym same) other in
+    let here = subst (λ xs. HasFault (next_form header_forms f.header) f xs e) (sym rest) there in
+    one_fault_there (next_form header_forms f.header) f r d e is here
+
+pub one_fault : (bytes : List ℕ) (d e : TraceFault) → IsFirstFault bytes d → IsFirstFault bytes e → d ≡ e
+one_fault bytes d e one other =
+    ⊎_elim
+    (λ same. one_fault_of one.0 other.0 one.1 other.1 d e same.0 same.1 one.4 other.4)
+    (λ more. absurd (⊎_elim (λ h. no_fault one.0 one.1 d h one.4) (λ h. no_fault other.0 other.1 e h other.4) more))
+    (front_split one.0 other.0 one.1 other.1 one.2 other.2 (sym one.3 ∙ other.3))
