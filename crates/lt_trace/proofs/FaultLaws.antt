@@ -100,7 +100,7 @@ one_header_fault form number (b ∷ bs) f g is other =
     one_first (fault_of_text number (first_line (b ∷ bs))) (λ d. IsNoHeader form (first_line (b ∷ bs)).bytes × (d ≡ fault.BadHeader number)) f g (λ d e one two. one.1 ∙ sym two.1) is other
 
 one_form_fault : (version number trees : ℕ) (before : List Line) (text : List ℕ) (d e : TraceFault) (one other : Option Line)
-  → Forms version text one → fault_of_form number trees before one ≡ Some d → Forms version text other → fault_of_form number trees before other ≡ Some e → d ≡ e
+    → Forms version text one → fault_of_form number trees before one ≡ Some d → Forms version text other → fault_of_form number trees before other ≡ Some e → d ≡ e
 one_form_fault version number trees before text d e None None one first other second = cc
 one_form_fault version number trees before text d e None (Some l) one first other second = absurd (one l other.0 other.1)
 one_form_fault version number trees before text d e (Some k) None one first other second = absurd (other k one.0 one.1)
@@ -114,7 +114,7 @@ one_body_fault header before (b ∷ bs) f g is other =
     let text = first_line (b ∷ bs) in
     let number = 5 + length before in
     one_first (fault_of_text number text) (λ d. (form : Option Line) × Forms (version_in header) text.bytes form × (fault_of_form number (trees_in header) before form ≡ Some d)) f g
-      (λ d e one two. one_form_fault (version_in header) number (trees_in header) before text.bytes d e one.0 two.0 one.1 one.2 two.1 two.2) is other
+    (λ d e one two. one_form_fault (version_in header) number (trees_in header) before text.bytes d e one.0 two.0 one.1 one.2 two.1 two.2) is other
 
 one_fault_there : (next : Option HeaderForm) (front : Front) (rest : List ℕ) (f g : TraceFault) → HasFault next front rest f → HasFault next front rest g → f ≡ g
 one_fault_there (Some form) front rest f g is other = one_header_fault form (1 + length front.header) rest f g is other

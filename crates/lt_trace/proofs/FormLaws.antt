@@ -43,8 +43,8 @@ deed_lacks version (Try tree range) form =
     lacks_append 10 (codes " try " ++ decimal tree) (range_text range)
     (lacks_append 10 (codes " try ") (decimal tree) (lacks_by_test 10 (codes " try ") refl) (decimal_lacks 10 tree (let h = form.0 in omega arith) (lit< tt)))
     (lacks_append 10 (codes " " ++ key_text range.left ++ codes " ") (key_text range.right)
-      (lacks_append 10 (codes " " ++ key_text range.left) (codes " ") (lacks_append 10 (codes " ") (key_text range.left) (lacks_by_test 10 (codes " ") refl) (key_lacks range.left)) (lacks_by_test 10 (codes " ") refl))
-      (key_lacks range.right))
+    (lacks_append 10 (codes " " ++ key_text range.left) (codes " ") (lacks_append 10 (codes " ") (key_text range.left) (lacks_by_test 10 (codes " ") refl) (key_lacks range.left)) (lacks_by_test 10 (codes " ") refl))
+    (key_lacks range.right))
 deed_lacks version (Lock tree range) form = absurd form
 deed_lacks version End form = lacks_by_test 10 (codes " end") refl
 deed_lacks version Abort form = absurd form
@@ -58,7 +58,7 @@ between left right = record { left = left; right = right }
 range_once : (version : ℕ) (a b : Interval) → IsRangeForm version a → IsRangeForm version b → range_text a ≡ range_text b → a ≡ b
 range_once version a b one other e =
     let both : key_text a.left ++ 32 ∷ key_text a.right ≡ key_text b.left ++ 32 ∷ key_text b.right =
-      sym (append_assoc (key_text a.left) (32 ∷ []) (key_text a.right)) ∙ tail e ∙ append_assoc (key_text b.left) (32 ∷ []) (key_text b.right) in
+    sym (append_assoc (key_text a.left) (32 ∷ []) (key_text a.right)) ∙ tail e ∙ append_assoc (key_text b.left) (32 ∷ []) (key_text b.right) in
     let cut = key_cut a.left b.left (key_text a.right) (key_text b.right) both in
     let left = text_once a.left b.left one.0.1 other.0.1 cut.0 in
     let right = text_once a.right b.right one.1.1 other.1.1 cut.1 in
@@ -94,9 +94,10 @@ line_once version k l one other is =
     let second = deed_ahead version l.deed other.deed in
     let spaced : decimal k.txn ++ 32 ∷ first.0 ≡ decimal l.txn ++ 32 ∷ second.0 = sym (ap (λ text. decimal k.txn ++ text) first.1) ∙ is ∙ ap (λ text. decimal l.txn ++ text) second.1 in
     let small : k.txn < 2 ^ 64 = let h = one.most in omega arith in
-    let cut = number_once l.txn (decimal k.txn) first.0 second.0 other.most (decimal_lacks 32 k.txn small (lit< tt)) spaced in
-    (decimal_injective k.txn l.txn small (let h = other.most in omega arith) cut.0,
-     deed_once version k.deed l.deed one.deed other.deed (first.1 ∙ ap (λ text. 32 ∷ text) cut.1 ∙ sym second.1))
+    let cut = number_once l.txn (decimal k.txn) first.0 second.0 other.most (decimal_lacks 32 k.txn small (lit< tt)) spaced in (
+      decimal_injective k.txn l.txn small (let h = other.most in omega arith) cut.0,
+      deed_once version k.deed l.deed one.deed other.deed (first.1 ∙ ap (λ text. 32 ∷ text) cut.1 ∙ sym second.1),
+    )
 
 -- no newline stands in a line
 pub line_lacks : (version : ℕ) (line : Line) → IsForm version line → Lacks 10 (line_text line)

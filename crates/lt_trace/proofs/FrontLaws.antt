@@ -18,11 +18,16 @@ pub record IsPlain (form : HeaderForm) : Type 0 where
   pub small : form.most ≤ 65536
 
 pub plain_forms : AllByRecursion IsPlain header_forms
-plain_forms =
-    (record { lacks = lacks_by_test 10 (codes "rangelock") refl; short = lit≤ tt; small = lit≤ tt },
-     (record { lacks = lacks_by_test 10 (codes "trees") refl; short = lit≤ tt; small = lit≤ tt },
-      (record { lacks = lacks_by_test 10 (codes "limit") refl; short = lit≤ tt; small = lit≤ tt },
-       (record { lacks = lacks_by_test 10 (codes "buffer") refl; short = lit≤ tt; small = lit≤ tt }, tt))))
+plain_forms = (
+  record { lacks = lacks_by_test 10 (codes "rangelock") refl; short = lit≤ tt; small = lit≤ tt },
+  (
+    record { lacks = lacks_by_test 10 (codes "trees") refl; short = lit≤ tt; small = lit≤ tt },
+    (
+      record { lacks = lacks_by_test 10 (codes "limit") refl; short = lit≤ tt; small = lit≤ tt },
+      (record { lacks = lacks_by_test 10 (codes "buffer") refl; short = lit≤ tt; small = lit≤ tt }, tt),
+    ),
+  ),
+)
 
 pub header_lacks : (form : HeaderForm) (n : ℕ) → IsPlain form → n ≤ form.most → Lacks 10 (header_line form n)
 header_lacks form n plain most =
@@ -52,7 +57,7 @@ ended_line : (xs ys zs : List ℕ) → ((xs ++ 10 ∷ []) ++ ys) ++ zs ≡ xs ++
 ended_line xs ys zs = append_assoc (xs ++ 10 ∷ []) ys zs ∙ append_assoc xs (10 ∷ []) (ys ++ zs)
 
 header_split : (forms : List HeaderForm) (ns ms r s : List ℕ) → AllByRecursion IsPlain forms → AreInForm forms ns → AreInForm forms ms → header_text forms ns ++ r ≡ header_text forms ms ++ s
-  → ((ns ≡ ms) × (r ≡ s)) ⊎ (HeaderMore forms ns r ⊎ HeaderMore forms ms s)
+    → ((ns ≡ ms) × (r ≡ s)) ⊎ (HeaderMore forms ns r ⊎ HeaderMore forms ms s)
 header_split forms [] [] r s plain one other e = inl (refl, e)
 header_split [] [] (m ∷ ms) r s plain one other e = absurd other
 header_split [] (n ∷ ns) ms r s plain one other e = absurd one
@@ -62,7 +67,7 @@ header_split (form ∷ forms) (n ∷ ns) [] r s plain one other e =
     inr (inr (record { form = form; number = n; behind = header_text forms ns ++ r; next = refl; least = one.0; most = one.1; begins = sym e ∙ ended_line (header_line form n) (header_text forms ns) r }))
 header_split (form ∷ forms) (n ∷ ns) (m ∷ ms) r s plain one other e =
     let cut = cut_once 10 (header_line form n) (header_line form m) (header_text forms ns ++ r) (header_text forms ms ++ s) (header_lacks form n plain.0 one.1) (header_lacks form m plain.0 other.1)
-      (sym (ended_line (header_line form n) (header_text forms ns) r) ∙ e ∙ ended_line (header_line form m) (header_text forms ms) s) in
+    (sym (ended_line (header_line form n) (header_text forms ns) r) ∙ e ∙ ended_line (header_line form m) (header_text forms ms) s) in
     let same = header_once form n m plain.0 one.1 other.1 cut.0 in
     ⊎_elim
     (λ equal. inl (ap (λ k. k ∷ ns) same ∙ ap (λ ks. m ∷ ks) equal.0, equal.1))
@@ -93,7 +98,7 @@ same_line header before k l one other is =
     ap (λ n. made n k.number k.deed) once.0 ∙ ap (λ n. made l.txn n k.deed) number ∙ ap (λ d. made l.txn l.number d) once.1
 
 lines_split : (header : List ℕ) (before ks ls : List Line) (r s : List ℕ) → AreFaultless header before ks → AreFaultless header before ls → lines_text ks ++ r ≡ lines_text ls ++ s
-  → ((ks ≡ ls) × (r ≡ s)) ⊎ (LineMore header (before ++ ks) r ⊎ LineMore header (before ++ ls) s)
+    → ((ks ≡ ls) × (r ≡ s)) ⊎ (LineMore header (before ++ ks) r ⊎ LineMore header (before ++ ls) s)
 lines_split header before [] [] r s one other e = inl (refl, e)
 lines_split header before [] (l ∷ ls) r s one other e =
     inr (inl (record { line = l; behind = lines_text ls ++ s; good = subst (λ lines. IsFaultless header lines l) (sym (append-nil before)) other.0; begins = e ∙ ended_line (line_text l) (lines_text ls) s }))
@@ -101,7 +106,7 @@ lines_split header before (k ∷ ks) [] r s one other e =
     inr (inr (record { line = k; behind = lines_text ks ++ r; good = subst (λ lines. IsFaultless header lines k) (sym (append-nil before)) one.0; begins = sym e ∙ ended_line (line_text k) (lines_text ks) r }))
 lines_split header before (k ∷ ks) (l ∷ ls) r s one other e =
     let cut = cut_once 10 (line_text k) (line_text l) (lines_text ks ++ r) (lines_text ls ++ s) (line_lacks (version_in header) k one.0.form) (line_lacks (version_in header) l other.0.form)
-      (sym (ended_line (line_text k) (lines_text ks) r) ∙ e ∙ ended_line (line_text l) (lines_text ls) s) in
+    (sym (ended_line (line_text k) (lines_text ks) r) ∙ e ∙ ended_line (line_text l) (lines_text ls) s) in
     let same = same_line header before k l one.0 other.0 cut.0 in
     let rest = subst (λ line. AreFaultless header (before ++ line ∷ []) ls) (sym same) other.1 in
     ⊎_elim
@@ -133,7 +138,7 @@ abbrev at : List ℕ → List Line → Front
 at header lines = record { header = header; lines = lines }
 
 by_lines : (header : List ℕ) (ks ls : List Line) (r s : List ℕ) → next_form header_forms header ≡ None → ((ks ≡ ls) × (r ≡ s)) ⊎ (LineMore header ks r ⊎ LineMore header ls s)
-  → ((at header ks ≡ at header ls) × (r ≡ s)) ⊎ (GoesOn (at header ks) r ⊎ GoesOn (at header ls) s)
+    → ((at header ks ≡ at header ls) × (r ≡ s)) ⊎ (GoesOn (at header ks) r ⊎ GoesOn (at header ls) s)
 by_lines header ks ls r s none split =
     ⊎_elim
     (λ same. inl (ap (λ lines. at header lines) same.0, same.1))
@@ -142,7 +147,7 @@ by_lines header ks ls r s none split =
 
 -- two fronts with one header
 body_split : (header : List ℕ) (ks ls : List Line) (r s : List ℕ) → IsBody header ks → IsBody header ls → lines_text ks ++ r ≡ lines_text ls ++ s
-  → ((at header ks ≡ at header ls) × (r ≡ s)) ⊎ (GoesOn (at header ks) r ⊎ GoesOn (at header ls) s)
+    → ((at header ks ≡ at header ls) × (r ≡ s)) ⊎ (GoesOn (at header ks) r ⊎ GoesOn (at header ls) s)
 body_split header [] [] r s one other e = inl (refl, e)
 body_split header [] (l ∷ ls) r s one other e = by_lines header [] (l ∷ ls) r s (whole_header header l ls other) (lines_split header [] [] (l ∷ ls) r s tt other.1 e)
 body_split header (k ∷ ks) ls r s one other e = by_lines header (k ∷ ks) ls r s (whole_header header k ks one) (lines_split header [] (k ∷ ks) ls r s one.1 (faultless_body header ls other) e)
@@ -150,7 +155,7 @@ body_split header (k ∷ ks) ls r s one other e = by_lines header (k ∷ ks) ls 
 split_whole : (f g : Front) (r s : List ℕ) → IsFront f → IsFront g → f.header ≡ g.header → lines_text f.lines ++ r ≡ lines_text g.lines ++ s → ((f ≡ g) × (r ≡ s)) ⊎ (GoesOn f r ⊎ GoesOn g s)
 split_whole f g r s one other same e =
     subst (λ header. IsBody header g.lines → ((f ≡ at header g.lines) × (r ≡ s)) ⊎ (GoesOn f r ⊎ GoesOn (at header g.lines) s)) same
-      (λ body. body_split f.header f.lines g.lines r s one.body body e) other.body
+    (λ body. body_split f.header f.lines g.lines r s one.body body e) other.body
 
 -- where header lines come next, there is no body
 no_body : (header : List ℕ) (lines : List Line) (form : HeaderForm) → IsBody header lines → next_form header_forms header ≡ Some form → lines ≡ []
@@ -168,4 +173,4 @@ front_split f g r s one other e =
     (λ same. split_whole f g r s one other same.0 same.1)
     (λ more. inr (⊎_elim (λ h. inl (header_ahead f r one h)) (λ h. inr (header_ahead g s other h)) more))
     (header_split header_forms f.header g.header (lines_text f.lines ++ r) (lines_text g.lines ++ s) plain_forms one.header other.header
-      (sym (append_assoc (header_text header_forms f.header) (lines_text f.lines) r) ∙ e ∙ append_assoc (header_text header_forms g.header) (lines_text g.lines) s))
+    (sym (append_assoc (header_text header_forms f.header) (lines_text f.lines) r) ∙ e ∙ append_assoc (header_text header_forms g.header) (lines_text g.lines) s))

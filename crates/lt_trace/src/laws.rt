@@ -19,17 +19,14 @@ pub fn front_grows()
 /// Bytes that spell a trace have no fault.
 pub fn spelled_not_refused()
     ensures { (bytes : List ℕ) (trace : TraceView) (fault : TraceFault) → Spells bytes trace → IsFirstFault bytes fault → ⊥ }
-{
-}
+{}
 
 /// Bytes spell one trace at the most.
 pub fn one_trace()
     ensures { (bytes : List ℕ) (one other : TraceView) → Spells bytes one → Spells bytes other → one ≡ other }
-{
-}
+{}
 
 /// Bytes have one first fault at the most.
 pub fn one_fault()
     ensures { (bytes : List ℕ) (one other : TraceFault) → IsFirstFault bytes one → IsFirstFault bytes other → one ≡ other }
-{
-}
+{}
