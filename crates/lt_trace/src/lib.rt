@@ -22,3 +22,6 @@ pub use numbers::number;
 pub use reading::read;
 pub use trace::Trace;
 pub use writing::write;
+
+#[cfg(test)]
+mod tests;
