@@ -19,7 +19,7 @@ use Rattle.lt_ranges.specs.Numbers.{ascending}
 use Rattle.lt_seq.specs.Sound.{AllOwn, IsOwned, IsSoundTree, AllSound}
 use Rattle.lt_seq.proofs.PairsLaws.{chosen, lawful-filter}
 use Rattle.lt_seq.proofs.SpanLaws.{lawful-granted}
-use Rattle.lt_seq.specs.Table.{Setting, TreeState, fresh, opening, step, tree_after, tree_at, tree_of, pairs_by, is_buffered, after_ask, after_free, mode_asked, ended, raised, drops_all}
+use Rattle.lt_seq.specs.Table.{Setting, TreeState, fresh, opening, step, tree_after, tree_of, pairs_by, is_buffered, after_ask, after_free, mode_asked, ended, raised, drops_all}
 use Rattle.lt_seq.proofs.TableLaws.{length-step}
 use Rattle.lt_seq.specs.History.{after, IsLegalFrom, IsLegal, IsQuestion}
 
@@ -38,14 +38,14 @@ lawful-with_front : (marks : List Key) (p : Pair) (qs : List Pair) → IsInterva
 lawful-with_front marks p [] o all lawful = (o, tt, tt)
 lawful-with_front marks p (q ∷ qs) o all lawful =
     chosen IsLawful (p.owner == q.owner && not (is_cut marks p q)) (record { owner = p.owner; range = record { left = p.range.left; right = q.range.right } } ∷ qs) (p ∷ q ∷ qs)
-      (λ _. (merged_ordered p q o all.0 lawful.0, after-merged p q qs lawful.1, lawful.2))
-      (λ _. (o, all, lawful))
+    (λ _. (merged_ordered p q o all.0 lawful.0, after-merged p q qs lawful.1, lawful.2))
+    (λ _. (o, all, lawful))
 
 after-with_front : (marks : List Key) (range : Interval) (p : Pair) (qs : List Pair) → before range p.range ≡ true → AllAfter range qs → AllAfter range (with_front marks p qs)
 after-with_front marks range p [] h all = (h, tt)
 after-with_front marks range p (q ∷ qs) h all =
     chosen (AllAfter range) (p.owner == q.owner && not (is_cut marks p q)) (record { owner = p.owner; range = record { left = p.range.left; right = q.range.right } } ∷ qs) (p ∷ q ∷ qs)
-      (λ _. (h, all.1)) (λ _. (h, all))
+    (λ _. (h, all.1)) (λ _. (h, all))
 
 after-joined : (marks : List Key) (range : Interval) (pairs : List Pair) → AllAfter range pairs → AllAfter range (joined marks pairs)
 after-joined marks range [] all = tt
@@ -87,30 +87,30 @@ lawful-pairs_by (owner ∷ owners) txn range pairs e o lawful = lawful
 sound_asked : (buffer txn : ℕ) (range : Interval) (pairs : List Pair) (mode : Mode) → IsInterval range → IsLawful pairs → IsOwned pairs mode → IsSoundTree (after_ask buffer txn range (record { pairs = pairs; mode = mode }))
 sound_asked buffer txn range pairs (Tree score) o lawful owned =
     sound_if (is_buffered buffer txn pairs (Tree score))
-      (record { pairs = granted txn range pairs; mode = Buffer txn 1 })
-      (record { pairs = pairs_by (others txn range pairs) txn range pairs; mode = Tree score })
-      (λ e. let none : pairs ≡ [] = empty pairs (grind (arith, nat_tests)) in
-        record { lawful = subst (λ l. IsLawful (granted txn range l)) (sym none) (o, tt, tt); owned = subst (λ l. AllOwn txn (granted txn range l)) (sym none) (refl, tt) })
-      (λ _. record { lawful = lawful-pairs_by _ txn range pairs refl o lawful; owned = tt })
+    (record { pairs = granted txn range pairs; mode = Buffer txn 1 })
+    (record { pairs = pairs_by (others txn range pairs) txn range pairs; mode = Tree score })
+    (λ e. let none : pairs ≡ [] = empty pairs (grind (arith, nat_tests)) in
+    record { lawful = subst (λ l. IsLawful (granted txn range l)) (sym none) (o, tt, tt); owned = subst (λ l. AllOwn txn (granted txn range l)) (sym none) (refl, tt) })
+    (λ _. record { lawful = lawful-pairs_by _ txn range pairs refl o lawful; owned = tt })
   where
     empty : (l : List Pair) → length l ≡ 0 → l ≡ []
     empty [] e = refl
     empty (x ∷ xs) e = absurd (omega (arith, e))
 sound_asked buffer txn range pairs (Buffer owner count) o lawful owned =
     sound_if (is_buffered buffer txn pairs (Buffer owner count))
-      (record { pairs = granted txn range pairs; mode = Buffer txn (count + 1) })
-      (record { pairs = pairs_by (others txn range pairs) txn range pairs; mode = Tree 0 })
-      (λ e. let same : owner ≡ txn = grind (arith, nat_tests) in
-        let own : AllOwn txn pairs = subst (λ t. AllOwn t pairs) same owned in
-        record { lawful = lawful-granted txn range pairs o lawful (others_none txn range pairs own); owned = own-with_pair txn _ (freed txn range pairs) refl (own-filter (λ p. not (is_own txn range p)) txn pairs own) })
-      (λ _. record { lawful = lawful-pairs_by _ txn range pairs refl o lawful; owned = tt })
+    (record { pairs = granted txn range pairs; mode = Buffer txn (count + 1) })
+    (record { pairs = pairs_by (others txn range pairs) txn range pairs; mode = Tree 0 })
+    (λ e. let same : owner ≡ txn = grind (arith, nat_tests) in
+    let own : AllOwn txn pairs = subst (λ t. AllOwn t pairs) same owned in
+    record { lawful = lawful-granted txn range pairs o lawful (others_none txn range pairs own); owned = own-with_pair txn _ (freed txn range pairs) refl (own-filter (λ p. not (is_own txn range p)) txn pairs own) })
+    (λ _. record { lawful = lawful-pairs_by _ txn range pairs refl o lawful; owned = tt })
 
 sound_freed : (txn : ℕ) (range : Interval) (first : Bool) (pairs : List Pair) (mode : Mode) → IsLawful pairs → IsSoundTree (after_free txn range first (record { pairs = pairs; mode = mode }))
 sound_freed txn range first pairs (Tree score) lawful = record { lawful = lawful-filter (λ p. not (is_own txn range p)) pairs lawful; owned = tt }
 sound_freed txn range first pairs (Buffer owner count) lawful =
     sound_if (drops_all txn range (Buffer owner count)) fresh (record { pairs = freed txn range pairs; mode = raised first (Tree 0) })
-      (λ _. record { lawful = tt; owned = tt })
-      (λ _. record { lawful = lawful-filter (λ p. not (is_own txn range p)) pairs lawful; owned = tt })
+    (λ _. record { lawful = tt; owned = tt })
+    (λ _. record { lawful = lawful-filter (λ p. not (is_own txn range p)) pairs lawful; owned = tt })
 
 sound_who : (named : ℕ) (pairs : List Pair) (mode : Mode) → IsLawful pairs → IsOwned pairs mode → IsSoundTree (record { pairs = pairs; mode = mode_asked named mode })
 sound_who named pairs (Tree score) lawful owned = record { lawful = lawful; owned = tt }

@@ -3,3 +3,4 @@ pub mod TableLaws
 pub mod PairsLaws
 pub mod SpanLaws
 pub mod LawfulLaws
+pub mod YardLaws
