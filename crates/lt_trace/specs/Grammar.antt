@@ -2,10 +2,10 @@
 use Rattle.std.specs.Prelude.{◌≡◌, ◌≢◌, ℕ, ◌+◌, ◌^◌, ◌<◌, ◌≤◌, List, [], ◌∷◌, ◌++◌, map, length, Option, Some, None, Bool, true, false, ◌&&◌, ◌||◌, ◌==◌, not, nat_lt, nat_le, if◌then◌else◌, codes, decimal}
 use Rattle.std.specs.List.{AllByRecursion, flat_map, list_any}
 use Rattle.lt_ranges.specs.declared.key.Key.{Key}
-use Rattle.lt_ranges.specs.declared.key.Key.TheVariants.{Below, Bytes, Above}
+use Rattle.lt_ranges.specs.declared.key.Key.TheVariants.{Below, Bytes, After, Above}
 use Rattle.lt_ranges.specs.Key.{key_le}
 use Rattle.lt_ranges.specs.Interval.{Interval}
-use Rattle.lt_ranges.specs.KeyText.{spaced, range_text}
+use Rattle.lt_ranges.specs.KeyText.{spaced, range_text, IsOfBytes, is_long}
 use Rattle.lt_ranges.specs.Numbers.{ascending}
 use Rattle.lt_trace.specs.declared.line.Line.{Line}
 use Rattle.lt_trace.specs.declared.line.LineDeed.{LineDeed}
@@ -63,15 +63,15 @@ deed_text Big = codes " big"
 abbrev pub line_text : Line → List ℕ
 line_text line = decimal line.txn ++ deed_text line.deed
 
--- a key of bytes, of any length
-abbrev pub IsOfBytes : Key → Type 0
-IsOfBytes Below = Unit {0}
-IsOfBytes (Bytes bytes) = AllByRecursion (λ b. b < 256) bytes
-IsOfBytes Above = Unit {0}
+-- a key that the version has, of bytes of any number: prefix endpoints came with the second
+abbrev pub IsKeyForm : ℕ → Key → Type 0
+IsKeyForm version Below = Unit {0}
+IsKeyForm version (Bytes bytes) = IsOfBytes (Bytes bytes)
+IsKeyForm version (After bytes) = (2 ≤ version) × IsOfBytes (After bytes)
+IsKeyForm version Above = Unit {0}
 
--- a range of keys that the version has
 abbrev pub IsRangeForm : ℕ → Interval → Type 0
-IsRangeForm version range = IsOfBytes range.left × IsOfBytes range.right
+IsRangeForm version range = IsKeyForm version range.left × IsKeyForm version range.right
 
 -- The forms of the version that are played. A form that is not played yet has no spelling: its case is empty.
 abbrev pub IsDeedForm : ℕ → LineDeed → Type 0
@@ -102,11 +102,6 @@ is_outside trees End = false
 is_outside trees Abort = false
 is_outside trees (Escalate tree) = nat_le trees tree
 is_outside trees Big = false
-
-abbrev pub is_long : Key → Bool
-is_long Below = false
-is_long (Bytes bytes) = nat_lt 63 (length bytes)
-is_long Above = false
 
 abbrev pub has_long_key : LineDeed → Bool
 has_long_key (Try tree range) = is_long range.left || is_long range.right
