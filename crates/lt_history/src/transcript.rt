@@ -88,6 +88,11 @@ fn push_key(out: &mut Vec<u8>, key: &Key) -> Result<(), AllocError>
             push_bytes(out, bytes.as_slice())?;
             out.extend_from_slice(b"\"")?;
         }
+        Key::After(bytes) => {
+            out.extend_from_slice(b"\"")?;
+            push_bytes(out, bytes.as_slice())?;
+            out.extend_from_slice(b"\"*")?;
+        }
         Key::Above => out.extend_from_slice(b"+")?,
     }
     Ok(())
