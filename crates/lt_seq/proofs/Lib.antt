@@ -1,0 +1,6 @@
+pub mod HistoryLaws
+pub mod TableLaws
+pub mod PairsLaws
+pub mod SpanLaws
+pub mod LawfulLaws
+pub mod YardLaws

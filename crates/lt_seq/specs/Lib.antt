@@ -1,0 +1,10 @@
+pub mod Pairs
+pub mod Table
+pub mod Sound
+pub mod History
+pub mod Rows
+pub mod Yard
+pub mod Alone
+pub mod Passes
+pub mod Questions
+pub mod Joins
