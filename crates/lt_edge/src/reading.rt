@@ -1,5 +1,5 @@
-ghost use Rattle.std.specs.Prelude.{◌≡◌, ◌≢◌, ◌≤◌, vec_len, IfOk, OnErr, Err};
-ghost use Rattle.std.specs.Io.KnownBytes.{Consumes};
+ghost use Rattle.std.specs.Prelude.{◌≡◌, ◌≢◌, ◌<◌, ◌≤◌, vec_len, IfOk, OnErr, Err};
+ghost use Rattle.std.specs.Io.KnownBytes.{Consumes, IsAtEnd};
 ghost use Rattle.lt_edge.specs.Bytes.{ReadsUpTo, ConsumesUpTo};
 ghost use Rattle.lt_edge.specs.Causes.{Rose};
 
@@ -29,6 +29,7 @@ pub fn read_all<S: Source>(
     ensures bytes { IfOk result (λ v. ReadsUpTo limit (S.left source.old) v.items) }
     ensures within { IfOk result (λ v. vec_len v ≤ limit) }
     ensures rest { IfOk result (λ v. Consumes (S.left source.old) (S.left source.new) v.items) }
+    ensures end { IfOk result (λ v. vec_len v < limit → IsAtEnd (S.left source.new)) }
     ensures lost { OnErr result (ConsumesUpTo limit (S.left source.old) (S.left source.new)) }
 
     ensures failed { result ≡ Err ReadFault.Failed → Rose (S.faults source.old) (S.faults source.new) }
