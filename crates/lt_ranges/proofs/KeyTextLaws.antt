@@ -1,82 +1,50 @@
--- Each key has one text.
-use Rattle.std.proofs.Common.{◌≡◌, ◌≢◌, ℕ, ◌+◌, ◌*◌, ◌/◌, ◌%◌, ◌≤◌, ◌<◌, List, [], ◌∷◌, ◌++◌, length, Bool, true, false, cond, refl, sym, ap, subst, ◌∙◌, arith, append_assoc}
+-- Each key has one text, of at most 255 bytes.
+use Rattle.std.proofs.Common.{◌≡◌, ℕ, ◌+◌, ◌*◌, ◌≤◌, List, [], ◌∷◌, ◌++◌, length, get_or, false, nat_lt, ap, refl, arith, length-append}
 use Rattle.std.proofs.lemmas.Bool.Decides.{nat_tests}
-use Rattle.std.proofs.lemmas.List.Elements.{All-head, All-tail, All-nil, All-cons}
-use Rattle.std.proofs.lemmas.List.{flat_map_more}
-use Rattle.std.specs.List.{All}
-use Rattle.std.specs.Fmt.{digit_glyph}
-use Rattle.lt_ranges.specs.KeyText.{is_plain, byte_text, spelled}
+use Rattle.lt_ranges.specs.declared.key.Key.{Key}
+use Rattle.lt_ranges.specs.declared.key.Key.TheVariants.{Below, Bytes, After, Above}
+use Rattle.lt_ranges.specs.KeyText.{byte_text, spelled, quoted, key_text, IsOfBytes, is_long}
+use Rattle.lt_ranges.proofs.SpellingLaws.{spelled_once}
+use Rattle.lt_ranges.proofs.QuotingLaws.{same_inside, same_front}
 
-digits_differ : (m n : ℕ) → m < 16 → n < 16 → digit_glyph false m ≡ digit_glyph false n → m ≡ n
-digits_differ m n h k e = grind (arith, nat_tests)
+first : {xs ys : List ℕ} → xs ≡ ys → get_or xs 0 0 ≡ get_or ys 0 0
+first e = ap (λ t. get_or t 0 0) e
 
--- two texts that begin with the texts of two bytes: it is one byte, and they go on alike
-byte_texts_by : (b c : ℕ) (xs ys : List ℕ) (p q : Bool) → b < 256 → c < 256 → is_plain b ≡ p → is_plain c ≡ q →
-    cond p (b ∷ []) (92 ∷ 120 ∷ digit_glyph false (b / 16) ∷ digit_glyph false (b % 16) ∷ []) ++ xs
-    ≡ cond q (c ∷ []) (92 ∷ 120 ∷ digit_glyph false (c / 16) ∷ digit_glyph false (c % 16) ∷ []) ++ ys →
-    (b ≡ c) × (xs ≡ ys)
-byte_texts_by b c xs ys true true h k plain plain' e = (cc, cc)
-byte_texts_by b c xs ys true false h k plain plain' e =
-    let same : b ≡ 92 = cc in
-    let wrong : is_plain 92 ≡ true = subst (λ n. is_plain n ≡ true) same plain in
-    cc
-byte_texts_by b c xs ys false true h k plain plain' e =
-    let same : c ≡ 92 = cc in
-    let wrong : is_plain 92 ≡ true = subst (λ n. is_plain n ≡ true) same plain' in
-    cc
-byte_texts_by b c xs ys false false h k plain plain' e =
-    let high : digit_glyph false (b / 16) ≡ digit_glyph false (c / 16) = cc in
-    let low : digit_glyph false (b % 16) ≡ digit_glyph false (c % 16) = cc in
-    let highs : b / 16 ≡ c / 16 = digits_differ (b / 16) (c / 16) (omega arith) (omega arith) high in
-    let lows : b % 16 ≡ c % 16 = digits_differ (b % 16) (c % 16) (omega arith) (omega arith) low in
-    (omega arith, cc)
+-- keys of one text are the same key
+pub text_once : (x y : Key) → IsOfBytes x → IsOfBytes y → key_text x ≡ key_text y → x ≡ y
+text_once Below Below h k e = refl
+text_once Below (Bytes ys) h k e = absurd (omega (arith, first e))
+text_once Below (After ys) h k e = absurd (omega (arith, first e))
+text_once Below Above h k e = absurd (omega (arith, first e))
+text_once (Bytes xs) Below h k e = absurd (omega (arith, first e))
+text_once (Bytes xs) (Bytes ys) h k e = ap Bytes (spelled_once xs ys h k (same_inside (spelled xs) (spelled ys) e))
+text_once (Bytes xs) (After ys) h k e = absurd (omega (arith, (same_front (34 ∷ spelled xs) (quoted ys) 34 42 e).1))
+text_once (Bytes xs) Above h k e = absurd (omega (arith, first e))
+text_once (After xs) Below h k e = absurd (omega (arith, first e))
+text_once (After xs) (Bytes ys) h k e = absurd (omega (arith, (same_front (quoted xs) (34 ∷ spelled ys) 42 34 e).1))
+text_once (After xs) (After ys) h k e =
+    ap After (spelled_once xs ys h k (same_inside (spelled xs) (spelled ys) (same_front (quoted xs) (quoted ys) 42 42 e).0))
+text_once (After xs) Above h k e = absurd (omega (arith, first e))
+text_once Above Below h k e = absurd (omega (arith, first e))
+text_once Above (Bytes ys) h k e = absurd (omega (arith, first e))
+text_once Above (After ys) h k e = absurd (omega (arith, first e))
+text_once Above Above h k e = refl
 
-pub byte_texts : (b c : ℕ) (xs ys : List ℕ) → b < 256 → c < 256 → byte_text b ++ xs ≡ byte_text c ++ ys → (b ≡ c) × (xs ≡ ys)
-byte_texts b c xs ys h k e = byte_texts_by b c xs ys (is_plain b) (is_plain c) h k refl refl e
+length-byte_text : (byte : ℕ) → length (byte_text byte) ≤ 4
+length-byte_text byte = grind arith
 
--- the text of a byte isn't empty
-nonempty_by : (b : ℕ) (xs : List ℕ) (p : Bool) → cond p (b ∷ []) (92 ∷ 120 ∷ digit_glyph false (b / 16) ∷ digit_glyph false (b % 16) ∷ []) ++ xs ≢ []
-nonempty_by b xs true e = cc
-nonempty_by b xs false e = cc
+length-spelled : (bytes : List ℕ) → length (spelled bytes) ≤ 4 * length bytes
+length-spelled [] = omega arith
+length-spelled (byte ∷ bytes) =
+    omega (arith, length-append (byte_text byte) (spelled bytes), length-byte_text byte, length-spelled bytes)
 
-pub byte_text_nonempty : (b : ℕ) (xs : List ℕ) → byte_text b ++ xs ≢ []
-byte_text_nonempty b xs e = nonempty_by b xs (is_plain b) e
+few : (bytes : List ℕ) → nat_lt 63 (length bytes) ≡ false → length bytes ≤ 63
+few bytes h = grind (arith, nat_tests)
 
-abbrev pub IsByte : ℕ → Type 0
-IsByte byte = byte < 256
-
-abbrev pub AreBytes : List ℕ → Type 0
-AreBytes bytes = All IsByte bytes
-
-pub spelled-push : (bytes : List ℕ) (byte : ℕ) → spelled (bytes ++ byte ∷ []) ≡ spelled bytes ++ byte_text byte
-spelled-push bytes byte = sym (flat_map_more byte_text [] bytes byte)
-
--- a text of bytes that begins as that of others is the text of the others and then of some more
-pub record GoesOn (more done rest : List ℕ) : Type 0 where
-  pub after : List ℕ
-  pub of_bytes : AreBytes after
-  pub split : more ≡ done ++ after
-  pub spells : rest ≡ spelled after
-
-pub goes_on : (more done rest : List ℕ) → AreBytes more → AreBytes done → spelled more ≡ spelled done ++ rest → GoesOn more done rest
-goes_on more [] rest h k e = record { after = more; of_bytes = h; split = refl; spells = sym e }
-goes_on [] (d ∷ ds) rest h k e =
-    absurd (byte_text_nonempty d (spelled ds ++ rest) (sym (append_assoc (byte_text d) (spelled ds) rest) ∙ sym e))
-goes_on (m ∷ ms) (d ∷ ds) rest h k e =
-    let heads = byte_texts m d (spelled ms) (spelled ds ++ rest) (All-head IsByte m ms h) (All-head IsByte d ds k) (e ∙ append_assoc (byte_text d) (spelled ds) rest) in
-    let tails = goes_on ms ds rest (All-tail IsByte m ms h) (All-tail IsByte d ds k) heads.1 in
-    record {
-      after = tails.after;
-      of_bytes = tails.of_bytes;
-      split = (λ i. heads.0 i ∷ tails.split i);
-      spells = tails.spells;
-    }
-
--- bytes that are spelled alike are the same
-pub spelled_once : (xs ys : List ℕ) → AreBytes xs → AreBytes ys → spelled xs ≡ spelled ys → xs ≡ ys
-spelled_once [] [] h k e = refl
-spelled_once [] (y ∷ ys) h k e = absurd (byte_text_nonempty y (spelled ys) (sym e))
-spelled_once (x ∷ xs) [] h k e = absurd (byte_text_nonempty x (spelled xs) e)
-spelled_once (x ∷ xs) (y ∷ ys) h k e =
-    let heads = byte_texts x y (spelled xs) (spelled ys) (All-head IsByte x xs h) (All-head IsByte y ys k) e in
-    λ i. heads.0 i ∷ spelled_once xs ys (All-tail IsByte x xs h) (All-tail IsByte y ys k) heads.1 i
+pub length-key_text : (key : Key) → is_long key ≡ false → length (key_text key) ≤ 255
+length-key_text Below h = omega arith
+length-key_text (Bytes bytes) h =
+    omega (arith, few bytes h, length-spelled bytes, length-append (spelled bytes) (34 ∷ []))
+length-key_text (After bytes) h =
+    omega (arith, few bytes h, length-spelled bytes, length-append (spelled bytes) (34 ∷ []), length-append (quoted bytes) (42 ∷ []))
+length-key_text Above h = omega arith

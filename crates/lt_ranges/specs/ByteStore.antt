@@ -1,6 +1,6 @@
 -- How bytes lie in a store of fixed size.
-use Rattle.std.specs.Prelude.{◌≡◌, ℕ, ◌-◌, ◌<◌, ◌≤◌, List, length, take, replicate, ◌++◌}
-use Rattle.std.specs.List.{All}
+use Rattle.std.specs.Prelude.{◌≡◌, ℕ, ◌-◌, ◌≤◌, List, length, take, replicate, ◌++◌}
+use Rattle.lt_ranges.specs.Numbers.{AreBytes}
 use Rattle.std.proofs.Common.{sym, ap, subst, ◌∙◌, length-take-le}
 
 -- the first bytes, as many as are counted, are the value's, and the others are 0
@@ -8,7 +8,7 @@ pub record IsPadded (room : ℕ) (bytes : List ℕ) (count : ℕ) : Type 0 where
   pub small : room ≤ 255
   pub bound : count ≤ room
   pub filled : length bytes ≡ room
-  pub of_bytes : All (λ byte. byte < 256) (take count bytes)
+  pub of_bytes : AreBytes (take count bytes)
   pub rest : bytes ≡ take count bytes ++ replicate (room - count) 0
 
 -- the store has as many bytes of the value as it counts

@@ -1,6 +1,6 @@
 //! A few bytes in a store of fixed size.
 ghost use Rattle.std.specs.Prelude.{◌≡◌, ℕ, ◌+◌, ◌-◌, ◌<◌, ◌≤◌, ◌↔◌, List, [], ◌∷◌, ◌++◌, length, take, replicate, IsTrue};
-ghost use Rattle.std.specs.List.{All};
+ghost use Rattle.lt_ranges.specs.Numbers.{AreBytes};
 
 use std::marker::Model;
 
@@ -58,7 +58,7 @@ impl<const ROOM: usize> ByteStore<ROOM> {
     pub(crate) fn as_slice(&self) -> &[u8]
         ensures value { result.now ≡ self.now }
         ensures bound { length self.now ≤ ROOM }
-        ensures of_bytes { All (λ byte. byte < 256) self.now }
+        ensures of_bytes { AreBytes self.now }
     {
         &self.bytes[..self.count as usize]
     }

@@ -47,7 +47,11 @@ pub(crate) fn first_byte(text: &[u8]) -> Option<(u8, &[u8])>
     match text {
         [b'\\', b'x', high, low, behind @ ..] => {
             let byte = named_byte(*high, *low)?;
-            if stands_for_itself(byte) { None } else { Some((byte, behind)) }
+            if stands_for_itself(byte) {
+                None
+            } else {
+                Some((byte, behind))
+            }
         }
         [byte, behind @ ..] if stands_for_itself(*byte) => Some((*byte, behind)),
         _ => None,

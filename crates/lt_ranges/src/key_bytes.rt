@@ -1,9 +1,9 @@
 //! The bytes of a key, in a store of fixed size.
 ghost use Rattle.std.specs.Prelude.{◌≡◌, ℕ, ◌+◌, ◌-◌, ◌<◌, ◌≤◌, ◌↔◌, List, [], ◌∷◌, ◌++◌, length, take, replicate, IsErr, IfOk, Some, nat_eq, refl};
-ghost use Rattle.std.specs.List.{All};
 ghost use Rattle.std.specs.Ordering.{nat_cmp};
 ghost use Rattle.std.specs.Cmp.{partial_equiv_from_equiv};
 ghost use Rattle.std.specs.Cmp.Lexicographic.{pointwise, slice_cmp, nat_list_eq_equiv, nat_list_cmp_total, texts_po, texts_ties};
+ghost use Rattle.lt_ranges.specs.Numbers.{AreBytes};
 
 use crate::byte_store::ByteStore;
 use std::cmp::Ordering;
@@ -15,7 +15,7 @@ use thiserror::Error;
 pub const MOST_KEY_BYTES: usize = 63;
 
 /// A key was longer than 63 bytes.
-#[derive(Debug, Drop, Error)]
+#[derive(Clone, Copy, Debug, PartialEq, Eq, Error)]
 #[error("a key has at most 63 bytes")]
 pub struct KeyTooLong;
 
@@ -62,7 +62,7 @@ impl KeyBytes {
     pub fn as_slice(&self) -> &[u8]
         ensures value { result.now ≡ self.now }
         ensures bound { length self.now ≤ 63 }
-        ensures of_bytes { All (λ byte. byte < 256) self.now }
+        ensures of_bytes { AreBytes self.now }
     {
         self.store.as_slice()
     }

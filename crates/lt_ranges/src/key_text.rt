@@ -1,7 +1,7 @@
 //! The text of a key, in a store of fixed size.
 ghost use Rattle.std.specs.Prelude.{◌≡◌, ℕ, ◌+◌, ◌*◌, ◌<◌, ◌≤◌, List, [], ◌∷◌, ◌++◌, length};
-ghost use Rattle.std.specs.List.{All};
 ghost use Rattle.lt_ranges.specs.KeyText.{byte_text, quoted};
+ghost use Rattle.lt_ranges.specs.Numbers.{AreBytes};
 
 use crate::byte_store::ByteStore;
 use crate::byte_text;
@@ -43,7 +43,7 @@ impl KeyText {
         ensures value { result ≡ quoted bytes.now }
         ensures room { length result < 255 }
         ensures bound { length bytes.now ≤ 63 }
-        ensures of_bytes { All (λ byte. byte < 256) bytes.now }
+        ensures of_bytes { AreBytes bytes.now }
     {
         let mut text = KeyText::of(b'"');
         for byte in bytes.as_slice() {

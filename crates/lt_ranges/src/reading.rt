@@ -1,8 +1,8 @@
 //! The bytes that a key's text spells.
 ghost use Rattle.std.specs.Prelude.{◌≡◌, ℕ, ◌<◌, ◌≤◌, List, length, IfOk, IfErr};
-ghost use Rattle.std.specs.List.{All};
 ghost use Rattle.lt_ranges.specs.KeyText.{spelled, quoted};
 ghost use Rattle.lt_ranges.specs.TextFault.{IsFaultOf};
+ghost use Rattle.lt_ranges.specs.Numbers.{AreBytes};
 
 use crate::byte_store::ByteStore;
 use crate::byte_text::first_byte;
@@ -13,7 +13,7 @@ use crate::text_fault::TextFault;
 pub(crate) fn read_quoted(text: &[u8]) -> Result<KeyBytes, TextFault>
     ensures value { IfOk result (λ bytes. text.now ≡ quoted bytes) }
     ensures bound { IfOk result (λ bytes. length bytes ≤ 63) }
-    ensures of_bytes { IfOk result (All (λ byte. byte < 256)) }
+    ensures of_bytes { IfOk result AreBytes }
     ensures fault { IfErr result (IsFaultOf quoted text.now) }
 {
     match text {
@@ -26,7 +26,7 @@ pub(crate) fn read_quoted(text: &[u8]) -> Result<KeyBytes, TextFault>
 fn read_spelled(text: &[u8]) -> Result<KeyBytes, TextFault>
     ensures value { IfOk result (λ bytes. text.now ≡ spelled bytes) }
     ensures bound { IfOk result (λ bytes. length bytes ≤ 63) }
-    ensures of_bytes { IfOk result (All (λ byte. byte < 256)) }
+    ensures of_bytes { IfOk result AreBytes }
     ensures fault { IfErr result (IsFaultOf spelled text.now) }
 {
     let mut stored = ByteStore::empty();

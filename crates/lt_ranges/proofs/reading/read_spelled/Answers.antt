@@ -1,5 +1,5 @@
 use Rattle.std.proofs.Common.{◌≡◌, ◌<◌, ◌≤◌, [], length, rules, arith}
-use Rattle.lt_ranges.proofs.HowFar.{kept_few, unread, one_past, one_more, read_all, read_past}
+use Rattle.lt_ranges.proofs.ReadSoFar.{kept_few, unread, one_past, one_more, read_all, read_past}
 use Rattle.lt_ranges.proofs.reading.read_spelled.Goals as goal
 
 pub returns-in_default-clause-fault : goal.returns-in_default-clause-fault

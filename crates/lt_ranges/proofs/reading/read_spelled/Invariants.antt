@@ -1,5 +1,5 @@
 use Rattle.std.proofs.Common.{length}
-use Rattle.lt_ranges.proofs.HowFar.{HasRead}
+use Rattle.lt_ranges.proofs.ReadSoFar.{HasRead}
 use Rattle.lt_ranges.proofs.reading.read_spelled.Given as goal
 
 -- how far the reading has come

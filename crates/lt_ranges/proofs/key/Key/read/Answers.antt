@@ -1,6 +1,7 @@
 use Rattle.std.proofs.Common.{rules, ◌≡◌, ◌≢◌, ℕ, List, ◌-◌, ◌≤◌, length, take, [], ◌∷◌, ◌++◌, get_or, arith}
 use Rattle.lt_ranges.specs.TextFault.{IsTextFault}
-use Rattle.lt_ranges.proofs.Quoting.{starred_by_end, fault_with_star, fault_without_star}
+use Rattle.lt_ranges.proofs.QuotingLaws.{starred_by_end}
+use Rattle.lt_ranges.proofs.TextFaultLaws.{fault_with_star, fault_without_star}
 use Rattle.lt_ranges.proofs.key.Key.read.Goals as goal
 
 pub returns-in_err-bytes-in-42-clause-fault : goal.returns-in_err-bytes-in-42-clause-fault

@@ -4,8 +4,9 @@ use Rattle.std.specs.Prelude.{nat_lt}
 use Rattle.std.proofs.lemmas.List.{take-append-le, take_all, length_push}
 use Rattle.std.proofs.lemmas.List.Elements.{All-head, All-push}
 use Rattle.std.proofs.lemmas.Bool.Decides.{nat_tests}
+use Rattle.lt_ranges.specs.Numbers.{AreBytes}
 use Rattle.lt_ranges.specs.KeyText.{byte_text, spelled}
-use Rattle.lt_ranges.proofs.KeyTextLaws.{IsByte, AreBytes, GoesOn, goes_on, spelled-push}
+use Rattle.lt_ranges.proofs.SpellingLaws.{IsByte, GoesOn, goes_on, spelled-push}
 
 -- Of the text the rest is left. Up to 63 bytes before it are stored, and it is known whether there were more.
 pub record HasRead (text rest stored : List ℕ) (is_long : Bool) : Type 0 where
