@@ -4,3 +4,5 @@ pub mod PairsLaws
 pub mod SpanLaws
 pub mod LawfulLaws
 pub mod YardLaws
+mod NumbersLaws
+pub mod SeqLaws
