@@ -1,5 +1,5 @@
 -- At every point of a legal history the pairs of each tree are lawful, and a buffer's are its transaction's.
-use Rattle.std.proofs.Common.{◌≡◌, ℕ, zero, suc, ◌<◌, ◌+◌, List, [], ◌∷◌, length, map, Bool, true, false, not, ◌&&◌, ◌==◌, if◌then◌else◌, replicate, get_or, refl, sym, ap, subst, ◌∙◌, inl, inr, arith, get_or-set_same, get_or-set_other}
+use Rattle.std.proofs.Common.{◌≡◌, ℕ, zero, suc, ◌<◌, ◌≤◌, ◌+◌, List, [], ◌∷◌, length, map, Bool, true, false, not, ◌&&◌, ◌==◌, nat_lt, take, if◌then◌else◌, replicate, get_or, refl, sym, ap, subst, ◌∙◌, inl, inr, arith, get_or-set_same, get_or-set_other}
 use Rattle.std.specs.List.{filter, fold}
 use Rattle.std.proofs.lemmas.Bool.{cases_eq}
 use Rattle.std.proofs.lemmas.Bool.Decides.{nat_tests}
@@ -14,14 +14,15 @@ use Rattle.lt_seq.specs.declared.event.Mode.{Mode}
 use Rattle.lt_seq.specs.declared.event.Mode.TheVariants.{Tree, Buffer}
 use Rattle.lt_seq.specs.declared.event.Deed.{Deed}
 use Rattle.lt_seq.specs.declared.event.Deed.TheVariants.{Ask, Free, Who, Join}
-use Rattle.lt_seq.specs.Pairs.{AllAfter, IsLawful, is_own, is_others, others, freed, granted, with_pair, joined, with_front, is_cut}
+use Rattle.lt_seq.specs.Pairs.{AllAfter, IsLawful, is_own, is_others, others, freed, span, granted, with_pair, joined, with_front, is_cut}
 use Rattle.lt_ranges.specs.Numbers.{ascending}
-use Rattle.lt_seq.specs.Sound.{AllOwn, IsOwned, IsSoundTree, AllSound}
+use Rattle.lt_seq.specs.Sound.{AllOwn, IsOwned, IsSoundTree, AllSound, IsSized, IsLawfulTable}
 use Rattle.lt_seq.proofs.PairsLaws.{chosen, lawful-filter}
 use Rattle.lt_seq.proofs.SpanLaws.{lawful-granted}
-use Rattle.lt_seq.specs.Table.{Setting, TreeState, fresh, opening, step, tree_after, tree_of, pairs_by, is_buffered, after_ask, after_free, mode_asked, ended, raised, drops_all}
-use Rattle.lt_seq.proofs.TableLaws.{length-step}
-use Rattle.lt_seq.specs.History.{after, IsLegalFrom, IsLegal, IsQuestion}
+use Rattle.lt_seq.specs.Table.{Setting, TreeState, fresh, opening, step, used, tree_after, tree_at, tree_of, pairs_by, is_buffered, after_ask, after_free, mode_asked, ended, raised, drops_all}
+use Rattle.lt_seq.proofs.TableLaws.{length-step, length-with_pair, length-granted, each_step, each_opening, IsCounted, used_step}
+use Rattle.lt_seq.specs.History.{after, IsNext, IsLegalFrom, IsLegal, IsQuestion}
+use Rattle.lt_seq.proofs.HistoryLaws.{legal_take}
 
 -- joins
 merged : Pair → Pair → Interval
@@ -131,23 +132,109 @@ sound_after setting txn (Who tree range named owners) t o sound = sound_who name
 sound_after setting txn (Join tree before after) t o sound = sound_join setting.marks t.pairs t.mode sound.lawful
 
 sound_step : (setting : Setting) (trees : List TreeState) (e : Event) → AllSound trees → tree_of e.deed < length trees → IsQuestion e.deed → AllSound (step setting trees e)
-sound_step setting trees e all lt question i =
-    elim (cases_eq i (tree_of e.deed)) [
-      | inl same ↦ subst IsSoundTree (sym (ap (λ j. get_or (step setting trees e) j fresh) same ∙ get_or-set_same trees (tree_of e.deed) _ fresh lt)) (sound_after setting e.txn e.deed _ question (all (tree_of e.deed)))
-      | inr differs ↦ subst IsSoundTree (sym (get_or-set_other trees (tree_of e.deed) i _ fresh differs)) (all i)
-    ]
+sound_step setting trees e all lt question =
+    each_step IsSoundTree setting trees e lt all (sound_after setting e.txn e.deed _ question (all (tree_of e.deed)))
 
-sound_from : (setting : Setting) (trees : List TreeState) (events : List Event) → length trees ≡ setting.plan.trees → AllSound trees → IsLegalFrom setting trees events → AllSound (fold (step setting) trees events)
-sound_from setting trees [] len all legal = all
-sound_from setting trees (e ∷ es) len all legal =
-    let lt : tree_of e.deed < length trees = omega (arith, legal.0.tree) in
-    sound_from setting (step setting trees e) es (length-step setting trees e ∙ len) (sound_step setting trees e all lt legal.0.question) legal.1
+-- sizes: what an ask leaves
+abbrev SizedTree : ℕ → TreeState → Type 0
+SizedTree buffer t = IsSized buffer t.pairs t.mode
 
-sound_opening : (count : ℕ) → AllSound (replicate count fresh)
-sound_opening zero i = record { lawful = tt; owned = tt }
-sound_opening (suc count) zero = record { lawful = tt; owned = tt }
-sound_opening (suc count) (suc i) = sound_opening count i
+sized_if : (buffer : ℕ) (b : Bool) (s t : TreeState) → (b ≡ true → SizedTree buffer s) → (b ≡ false → SizedTree buffer t) → SizedTree buffer (if b then s else t)
+sized_if buffer true s t on_true on_false = on_true refl
+sized_if buffer false s t on_true on_false = on_false refl
 
--- after a legal history every tree is sound
+granted_some : (txn : ℕ) (range : Interval) (pairs : List Pair) → 1 ≤ length (granted txn range pairs)
+granted_some txn range pairs = omega (arith, length-with_pair (record { owner = txn; range = span txn range pairs }) (freed txn range pairs))
+
+sized_asked : (buffer txn : ℕ) (range : Interval) (pairs : List Pair) (mode : Mode) → IsSized buffer pairs mode → SizedTree buffer (after_ask buffer txn range (record { pairs = pairs; mode = mode }))
+sized_asked buffer txn range pairs (Tree score) sized =
+    sized_if buffer (is_buffered buffer txn pairs (Tree score))
+      (record { pairs = granted txn range pairs; mode = Buffer txn 1 })
+      (record { pairs = pairs_by (others txn range pairs) txn range pairs; mode = Tree score })
+      (λ (e : is_buffered buffer txn pairs (Tree score) ≡ true).
+        let none : length pairs ≡ 0 = grind (arith, nat_tests) in
+        let room : 0 < buffer = grind (arith, nat_tests) in
+        record { some = granted_some txn range pairs; fewer = omega (arith, length-granted txn range pairs); most = omega arith })
+      (λ _. sized)
+sized_asked buffer txn range pairs (Buffer owner count) sized =
+    sized_if buffer (is_buffered buffer txn pairs (Buffer owner count))
+      (record { pairs = granted txn range pairs; mode = Buffer txn (count + 1) })
+      (record { pairs = pairs_by (others txn range pairs) txn range pairs; mode = Tree 0 })
+      (λ (e : is_buffered buffer txn pairs (Buffer owner count) ≡ true).
+        let room : count < buffer = grind (arith, nat_tests) in
+        record { some = granted_some txn range pairs; fewer = omega (arith, length-granted txn range pairs, sized.fewer); most = omega arith })
+      (λ _. omega arith)
+
+sized_raised : (first : Bool) (score : ℕ) (pairs : List Pair) (buffer : ℕ) → score ≤ 100 → IsSized buffer pairs (raised first (Tree score))
+sized_raised true score pairs buffer h = by_case (nat_lt score 100) refl
+  where
+    by_case : (b : Bool) → nat_lt score 100 ≡ b → (if true && b then score + 1 else score) ≤ 100
+    by_case true e = grind (arith, nat_tests)
+    by_case false e = h
+sized_raised false score pairs buffer h = h
+
+sized_ended : (buffer : ℕ) (pairs after_pairs : List Pair) (mode : Mode) → IsSized buffer pairs mode → IsSized buffer after_pairs (ended mode)
+sized_ended buffer pairs after_pairs (Tree score) sized = sized
+sized_ended buffer pairs after_pairs (Buffer owner count) sized = omega arith
+
+sized_freed : (buffer txn : ℕ) (range : Interval) (first : Bool) (pairs : List Pair) (mode : Mode) → IsSized buffer pairs mode → SizedTree buffer (after_free txn range first (record { pairs = pairs; mode = mode }))
+sized_freed buffer txn range first pairs (Tree score) sized = sized_raised first score (freed txn range pairs) buffer sized
+sized_freed buffer txn range first pairs (Buffer owner count) sized =
+    sized_if buffer (drops_all txn range (Buffer owner count)) fresh (record { pairs = freed txn range pairs; mode = raised first (Tree 0) })
+      (λ _. omega arith)
+      (λ _. sized_raised first 0 (freed txn range pairs) buffer (omega arith))
+
+sized_who : (buffer named : ℕ) (pairs : List Pair) (mode : Mode) → IsSized buffer pairs mode → IsSized buffer pairs (mode_asked named mode)
+sized_who buffer named pairs (Tree score) sized = sized
+sized_who buffer named pairs (Buffer owner count) sized = by_case (owner == named)
+  where
+    by_case : (b : Bool) → IsSized buffer pairs (if b then Buffer owner count else Tree 0)
+    by_case true = sized
+    by_case false = omega arith
+
+sized_after : (setting : Setting) (txn : ℕ) (deed : Deed) (t : TreeState) → SizedTree setting.plan.buffer t → SizedTree setting.plan.buffer (tree_after setting txn deed t)
+sized_after setting txn (Ask tree range reply) t sized = sized_asked setting.plan.buffer txn range t.pairs t.mode sized
+sized_after setting txn (Free tree range first count) t sized = sized_freed setting.plan.buffer txn range first t.pairs t.mode sized
+sized_after setting txn (Who tree range named owners) t sized = sized_who setting.plan.buffer named t.pairs t.mode sized
+sized_after setting txn (Join tree before after) t sized = sized_ended setting.plan.buffer t.pairs (joined setting.marks t.pairs) t.mode sized
+
+-- a fresh table is lawful, and a step keeps it so
+pub lawful_opening : (setting : Setting) → IsLawfulTable setting (opening setting)
+lawful_opening setting = record {
+  count = grind (arith, common_steps);
+  sound = each_opening IsSoundTree setting.plan.trees (record { lawful = tt; owned = tt });
+  sized = each_opening (SizedTree setting.plan.buffer) setting.plan.trees (omega arith);
+}
+
+pub lawful_step : (setting : Setting) (trees : List TreeState) (e : Event) → IsLawfulTable setting trees → IsNext setting trees e → IsLawfulTable setting (step setting trees e)
+lawful_step setting trees e lawful next =
+    let lt : tree_of e.deed < length trees = omega (arith, next.tree, lawful.count) in
+    record {
+      count = length-step setting trees e ∙ lawful.count;
+      sound = sound_step setting trees e lawful.sound lt next.question;
+      sized = each_step (SizedTree setting.plan.buffer) setting trees e lt lawful.sized (sized_after setting e.txn e.deed _ (lawful.sized (tree_of e.deed)));
+    }
+
+lawful_from : (setting : Setting) (trees : List TreeState) (events : List Event) → IsLawfulTable setting trees → IsLegalFrom setting trees events → IsLawfulTable setting (fold (step setting) trees events)
+lawful_from setting trees [] lawful legal = lawful
+lawful_from setting trees (e ∷ es) lawful legal = lawful_from setting (step setting trees e) es (lawful_step setting trees e lawful legal.0) legal.1
+
+-- after a legal history the table is lawful
+pub lawful_history : (setting : Setting) (events : List Event) → IsLegal setting events → IsLawfulTable setting (after setting events)
+lawful_history setting events legal = lawful_from setting (opening setting) events (lawful_opening setting) legal
+
 pub sound_history : (setting : Setting) (events : List Event) → IsLegal setting events → AllSound (after setting events)
-sound_history setting events legal = sound_from setting (opening setting) events (grind (arith, common_steps)) (sound_opening setting.plan.trees) legal
+sound_history setting events legal = (lawful_history setting events legal).sound
+
+-- and so it was at each point before
+pub lawful_at : (setting : Setting) (events : List Event) → IsLegal setting events → (k : ℕ) → IsLawfulTable setting (after setting (take k events))
+lawful_at setting events legal k = lawful_history setting (take k events) (legal_take setting events k legal)
+
+-- an event of a lawful table adds at most one row
+pub used_more : (setting : Setting) (trees : List TreeState) (e : Event) → IsLawfulTable setting trees → IsNext setting trees e → used (step setting trees e) ≤ used trees + 1
+used_more setting trees e lawful next =
+    used_step setting trees e (λ i. counted_from setting.plan.buffer (tree_at trees i).pairs (tree_at trees i).mode (lawful.sized i)) (omega (arith, next.tree, lawful.count))
+  where
+    counted_from : (buffer : ℕ) (pairs : List Pair) (mode : Mode) → IsSized buffer pairs mode → IsCounted pairs mode
+    counted_from buffer pairs (Tree score) sized = tt
+    counted_from buffer pairs (Buffer txn count) sized = sized.fewer

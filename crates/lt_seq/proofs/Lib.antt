@@ -4,5 +4,6 @@ pub mod PairsLaws
 pub mod SpanLaws
 pub mod LawfulLaws
 pub mod YardLaws
-mod NumbersLaws
+pub mod NumbersLaws
 pub mod SeqLaws
+pub mod RefusalLaws

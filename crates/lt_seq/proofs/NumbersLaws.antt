@@ -1,12 +1,12 @@
 -- The numbers of a list in ascending order, each once: a list that rises is known by its members.
-use Rattle.std.proofs.Common.{◌≡◌, ℕ, zero, suc, ◌<◌, List, [], ◌∷◌, length, Bool, true, false, ◌==◌, nat_lt, nat_cmp, if◌then◌else◌, get_or, eqb, refl, sym, ap, subst, ◌∙◌, ◌⊎◌, inl, inr, arith}
+use Rattle.std.proofs.Common.{◌≡◌, ℕ, zero, suc, ◌+◌, ◌<◌, List, [], ◌∷◌, length, Bool, true, false, ◌||◌, ◌==◌, nat_lt, nat_cmp, if◌then◌else◌, get_or, slice_index, eqb, refl, sym, ap, subst, ◌∙◌, ◌⊎◌, inl, inr, arith}
 use Rattle.std.specs.List.{fold, Contains, AllPairs, dedup}
-use Rattle.std.specs.List.Sorted.{IsSorted, IsPermutation}
+use Rattle.std.specs.List.Sorted.{IsSorted, IsPermutation, IsStrictlyIncreasing}
 use Rattle.std.proofs.lemmas.Bool.Decides.{nat_tests}
 use Rattle.std.proofs.lemmas.List.Sorted.{Contains-permutation, IsPermutation-sym}
 use Rattle.std.proofs.lemmas.List.Kept.{Contains-dedup_nat, Contains-from_dedup, AllPairs-from_increasing}
 use Rattle.std.proofs.lemmas.Map.Keys.{IsStrictlyIncreasing-dedup}
-use Rattle.lt_ranges.specs.Numbers.{with_number, ascending}
+use Rattle.lt_ranges.specs.Numbers.{is_in, with_number, ascending}
 
 -- members
 abbrev In : ℕ → List ℕ → Type 0
@@ -149,3 +149,31 @@ ascending_sorted ns sorted permutation in_order =
       (rises_fold [] ns tt)
       (λ z h. fold_in z [] ns (inr (in_contains z ns (Contains-permutation sorted ns z (IsPermutation-sym ns sorted permutation) (Contains-from_dedup eqb sorted z (Contains_from z (dedup eqb sorted) h))))))
       (λ z h. in_contains z (dedup eqb sorted) (Contains-dedup_nat sorted z (Contains-permutation ns sorted z permutation (Contains_from z ns (in_ascending z ns h)))))
+
+increasing_from : (xs : List ℕ) → Rises xs → IsStrictlyIncreasing xs
+increasing_from [] rises k within = absurd (omega arith)
+increasing_from (x ∷ []) rises k within = absurd (omega arith)
+increasing_from (x ∷ y ∷ ys) rises zero within = rises.0.0
+increasing_from (x ∷ y ∷ ys) rises (suc k) within =
+    let e : suc (k + 1) ≡ suc k + 1 = omega arith in
+    subst (λ j. slice_index (y ∷ ys) k < slice_index (x ∷ y ∷ ys) j) e (increasing_from (y ∷ ys) rises.1 k (omega arith))
+
+pub ascending_increases : (ns : List ℕ) → IsStrictlyIncreasing (ascending ns)
+ascending_increases ns = increasing_from (ascending ns) (rises_fold [] ns tt)
+
+-- the members of the list, as a test
+is_in-with_number : (z n : ℕ) (ns : List ℕ) → is_in z (with_number n ns) ≡ ((n == z) || is_in z ns)
+is_in-with_number z n [] = refl
+is_in-with_number z n (x ∷ xs) = by_case (nat_lt n x) (n == x) refl (is_in-with_number z n xs)
+  where
+    by_case : (a b : Bool) → (n == x) ≡ b → is_in z (with_number n xs) ≡ ((n == z) || is_in z xs) → is_in z (if a then n ∷ x ∷ xs else if b then x ∷ xs else x ∷ with_number n xs) ≡ ((n == z) || ((x == z) || is_in z xs))
+    by_case true b e rest = refl
+    by_case false true e rest = grind (arith, nat_tests)
+    by_case false false e rest = grind (arith, rest)
+
+is_in-fold : (z : ℕ) (acc ns : List ℕ) → is_in z (fold (λ list n. with_number n list) acc ns) ≡ (is_in z acc || is_in z ns)
+is_in-fold z acc [] = grind arith
+is_in-fold z acc (n ∷ ns) = grind (arith, is_in-fold z (with_number n acc) ns, is_in-with_number z n acc)
+
+pub is_in-ascending : (z : ℕ) (ns : List ℕ) → is_in z (ascending ns) ≡ is_in z ns
+is_in-ascending z ns = is_in-fold z [] ns

@@ -1,15 +1,20 @@
 //! Laws of the table.
-ghost use Rattle.std.specs.Prelude.{◌≡◌, ℕ, ◌+◌, ◌≤◌, List, [], ◌∷◌, ◌++◌, length, Result};
+ghost use Rattle.std.specs.Prelude.{◌≡◌, ◌≢◌, ℕ, ◌+◌, ◌≤◌, ◌==◌, ◌&&◌, List, [], ◌∷◌, ◌++◌, length, take, Result};
+ghost use Rattle.std.specs.List.{list_any};
+ghost use Rattle.std.specs.List.Sorted.{IsStrictlyIncreasing};
+ghost use Rattle.lt_ranges.specs.Interval.{Interval};
+ghost use Rattle.lt_ranges.specs.Numbers.{is_in};
 ghost use Rattle.lt_seq.specs.declared.event.Deed.{Deed};
-ghost use Rattle.lt_seq.specs.declared.event.Event.{Event};
+ghost use Rattle.lt_seq.specs.declared.event.Deed.TheVariants.{Ask};
 ghost use Rattle.lt_seq.specs.declared.event.Pair.{Pair};
+ghost use Rattle.lt_seq.specs.declared.event.Reply.TheVariants.{HeldBy};
+ghost use Rattle.lt_seq.specs.Pairs.{is_others, others};
+ghost use Rattle.lt_seq.specs.declared.event.Event.{Event};
 ghost use Rattle.lt_seq.specs.declared.event.Receipt.{Receipt};
 ghost use Rattle.lt_seq.specs.declared.fault.Fault.{Fault};
-ghost use Rattle.lt_seq.specs.Pairs.{IsLawful, freed, with_pair, granted, others};
-ghost use Rattle.lt_seq.specs.Sound.{AllSound};
+ghost use Rattle.lt_seq.specs.Sound.{IsLawfulTable};
 ghost use Rattle.lt_seq.specs.Rows.{WorkedRows};
-ghost use Rattle.lt_seq.specs.Table.{Setting, TreeState, used, after_ask, rows_in};
-ghost use Rattle.lt_ranges.specs.Interval.{Interval, IsInterval};
+ghost use Rattle.lt_seq.specs.Table.{Setting, TreeState, opening, step, tree_at, used};
 ghost use Rattle.lt_seq.specs.History.{after, IsLegal, IsNext, calls_from};
 ghost use Rattle.lt_seq.specs.Yard.{PassView, HasAll, Answers, AskAnswers};
 ghost use Rattle.lt_seq.specs.Alone.{AloneAnswers, AloneAskAnswers};
@@ -25,14 +30,28 @@ pub fn one_event_more()
     ensures calls { (place pass : ℕ) (events : List Event) (e : Event) → e.pass ≡ pass → calls_from place pass (events ++ e ∷ []) ≡ calls_from place pass events ++ record { place = place + length events; event = e } ∷ [] }
 {}
 
-/// A legal history of n events leaves at most n rows in use.
-pub fn rows_in_use()
-    ensures { (setting : Setting) (events : List Event) → IsLegal setting events → used (after setting events) ≤ length events }
-{}
+/// A step keeps the table lawful: no two pairs of a tree overlap, a buffer's pairs are its transaction's, at least one
+/// and no more than its rows, its rows are from 1 to the buffer maximum, and a score is from 0 to 100. So the table is
+/// lawful at every point of a legal history.
+pub fn lawful_tables()
+    ensures opening { (setting : Setting) → IsLawfulTable setting (opening setting) }
+    ensures step { (setting : Setting) (trees : List TreeState) (e : Event) → IsLawfulTable setting trees → IsNext setting trees e → IsLawfulTable setting (step setting trees e) }
+    ensures history { (setting : Setting) (events : List Event) → IsLegal setting events → (k : ℕ) → IsLawfulTable setting (after setting (take k events)) }
+{
+}
 
-/// At every point of a legal history no two pairs of a tree overlap, and a buffer's pairs are its transaction's.
-pub fn sound_tables()
-    ensures { (setting : Setting) (events : List Event) → IsLegal setting events → AllSound (after setting events) }
+/// An event adds at most one row, and a legal history of n events leaves at most n rows in use.
+pub fn rows_in_use()
+    ensures event { (setting : Setting) (trees : List TreeState) (e : Event) → IsLawfulTable setting trees → IsNext setting trees e → used (step setting trees e) ≤ used trees + 1 }
+    ensures history { (setting : Setting) (events : List Event) → IsLegal setting events → used (after setting events) ≤ length events }
+{
+}
+
+/// A refusal names the other owners whose ranges overlap: exactly these, ascending, and at least one.
+pub fn refusals()
+    ensures named { (setting : Setting) (trees : List TreeState) (e : Event) (tree : ℕ) (range : Interval) (owners : List ℕ) → IsNext setting trees e → e.deed ≡ Ask tree range (HeldBy owners) → (owners ≡ others e.txn range (tree_at trees tree).pairs) × (owners ≢ []) }
+    ensures exact { (txn : ℕ) (range : Interval) (pairs : List Pair) (owner : ℕ) → is_in owner (others txn range pairs) ≡ list_any (λ p. (p.owner == owner) && is_others txn range p) pairs }
+    ensures ascending { (txn : ℕ) (range : Interval) (pairs : List Pair) → IsStrictlyIncreasing (others txn range pairs) }
 {}
 
 /// The answers to a pass that has all the rights, in any yard: one event more, at once, or want of memory, or a full
