@@ -1,7 +1,6 @@
 -- At every point of a legal history the pairs of each tree are lawful, and a buffer's are its transaction's.
-use Rattle.std.proofs.Common.{◌≡◌, ℕ, zero, suc, ◌<◌, ◌≤◌, ◌+◌, List, [], ◌∷◌, length, map, Bool, true, false, not, ◌&&◌, ◌==◌, nat_lt, take, if◌then◌else◌, replicate, get_or, refl, sym, ap, subst, ◌∙◌, inl, inr, arith, get_or-set_same, get_or-set_other}
+use Rattle.std.proofs.Common.{◌≡◌, ℕ, ◌<◌, ◌≤◌, ◌+◌, List, [], ◌∷◌, length, map, Bool, true, false, not, ◌&&◌, ◌==◌, nat_lt, take, if◌then◌else◌, refl, sym, ap, subst, ◌∙◌, arith}
 use Rattle.std.specs.List.{filter, fold}
-use Rattle.std.proofs.lemmas.Bool.{cases_eq}
 use Rattle.std.proofs.lemmas.Bool.Decides.{nat_tests}
 use Rattle.std.proofs.lemmas.Grind.{common_steps}
 use Rattle.lt_ranges.specs.declared.key.Key.{Key}
@@ -149,21 +148,21 @@ granted_some txn range pairs = omega (arith, length-with_pair (record { owner = 
 sized_asked : (buffer txn : ℕ) (range : Interval) (pairs : List Pair) (mode : Mode) → IsSized buffer pairs mode → SizedTree buffer (after_ask buffer txn range (record { pairs = pairs; mode = mode }))
 sized_asked buffer txn range pairs (Tree score) sized =
     sized_if buffer (is_buffered buffer txn pairs (Tree score))
-      (record { pairs = granted txn range pairs; mode = Buffer txn 1 })
-      (record { pairs = pairs_by (others txn range pairs) txn range pairs; mode = Tree score })
-      (λ (e : is_buffered buffer txn pairs (Tree score) ≡ true).
-        let none : length pairs ≡ 0 = grind (arith, nat_tests) in
-        let room : 0 < buffer = grind (arith, nat_tests) in
-        record { some = granted_some txn range pairs; fewer = omega (arith, length-granted txn range pairs); most = omega arith })
-      (λ _. sized)
+    (record { pairs = granted txn range pairs; mode = Buffer txn 1 })
+    (record { pairs = pairs_by (others txn range pairs) txn range pairs; mode = Tree score })
+    (λ (e : is_buffered buffer txn pairs (Tree score) ≡ true).
+    let none : length pairs ≡ 0 = grind (arith, nat_tests) in
+    let room : 0 < buffer = grind (arith, nat_tests) in
+    record { some = granted_some txn range pairs; fewer = omega (arith, length-granted txn range pairs); most = omega arith })
+    (λ _. sized)
 sized_asked buffer txn range pairs (Buffer owner count) sized =
     sized_if buffer (is_buffered buffer txn pairs (Buffer owner count))
-      (record { pairs = granted txn range pairs; mode = Buffer txn (count + 1) })
-      (record { pairs = pairs_by (others txn range pairs) txn range pairs; mode = Tree 0 })
-      (λ (e : is_buffered buffer txn pairs (Buffer owner count) ≡ true).
-        let room : count < buffer = grind (arith, nat_tests) in
-        record { some = granted_some txn range pairs; fewer = omega (arith, length-granted txn range pairs, sized.fewer); most = omega arith })
-      (λ _. omega arith)
+    (record { pairs = granted txn range pairs; mode = Buffer txn (count + 1) })
+    (record { pairs = pairs_by (others txn range pairs) txn range pairs; mode = Tree 0 })
+    (λ (e : is_buffered buffer txn pairs (Buffer owner count) ≡ true).
+    let room : count < buffer = grind (arith, nat_tests) in
+    record { some = granted_some txn range pairs; fewer = omega (arith, length-granted txn range pairs, sized.fewer); most = omega arith })
+    (λ _. omega arith)
 
 sized_raised : (first : Bool) (score : ℕ) (pairs : List Pair) (buffer : ℕ) → score ≤ 100 → IsSized buffer pairs (raised first (Tree score))
 sized_raised true score pairs buffer h = by_case (nat_lt score 100) refl
@@ -181,8 +180,8 @@ sized_freed : (buffer txn : ℕ) (range : Interval) (first : Bool) (pairs : List
 sized_freed buffer txn range first pairs (Tree score) sized = sized_raised first score (freed txn range pairs) buffer sized
 sized_freed buffer txn range first pairs (Buffer owner count) sized =
     sized_if buffer (drops_all txn range (Buffer owner count)) fresh (record { pairs = freed txn range pairs; mode = raised first (Tree 0) })
-      (λ _. omega arith)
-      (λ _. sized_raised first 0 (freed txn range pairs) buffer (omega arith))
+    (λ _. omega arith)
+    (λ _. sized_raised first 0 (freed txn range pairs) buffer (omega arith))
 
 sized_who : (buffer named : ℕ) (pairs : List Pair) (mode : Mode) → IsSized buffer pairs mode → IsSized buffer pairs (mode_asked named mode)
 sized_who buffer named pairs (Tree score) sized = sized

@@ -1,5 +1,5 @@
 -- The numbers of a list in ascending order, each once: a list that rises is known by its members.
-use Rattle.std.proofs.Common.{◌≡◌, ℕ, zero, suc, ◌+◌, ◌<◌, List, [], ◌∷◌, length, Bool, true, false, ◌||◌, ◌==◌, nat_lt, nat_cmp, if◌then◌else◌, get_or, slice_index, eqb, refl, sym, ap, subst, ◌∙◌, ◌⊎◌, inl, inr, arith}
+use Rattle.std.proofs.Common.{◌≡◌, ℕ, zero, suc, ◌+◌, ◌<◌, List, [], ◌∷◌, length, Bool, true, false, ◌||◌, ◌==◌, nat_lt, nat_cmp, if◌then◌else◌, get_or, slice_index, eqb, refl, sym, subst, ◌∙◌, ◌⊎◌, inl, inr, arith}
 use Rattle.std.specs.List.{fold, Contains, AllPairs, dedup}
 use Rattle.std.specs.List.Sorted.{IsSorted, IsPermutation, IsStrictlyIncreasing}
 use Rattle.std.proofs.lemmas.Bool.Decides.{nat_tests}
@@ -38,9 +38,10 @@ above_from x (y ∷ ys) h = (h 0 0 (omega arith), above_from x ys (λ k d lt. h 
 
 rises_from : (xs : List ℕ) → AllPairs (λ x y. x < y) xs → Rises xs
 rises_from [] h = tt
-rises_from (x ∷ xs) h =
-    (above_from x xs (λ k d lt. h 0 (suc k) d (omega arith) (omega arith)),
-      rises_from xs (λ i j d lt within. h (suc i) (suc j) d (omega arith) (omega arith)))
+rises_from (x ∷ xs) h = (
+  above_from x xs (λ k d lt. h 0 (suc k) d (omega arith) (omega arith)),
+  rises_from xs (λ i j d lt within. h (suc i) (suc j) d (omega arith) (omega arith)),
+)
 
 above_on : (x y : ℕ) (ys : List ℕ) → x < y → AllAbove y ys → AllAbove x ys
 above_on x y [] h all = tt
@@ -68,8 +69,8 @@ rises_unique (x ∷ xs) [] a b to from = absurd (to x (inl refl))
 rises_unique (x ∷ xs) (y ∷ ys) a b to from =
     let e : x ≡ y = heads x y xs ys a.0 b.0 (to x (inl refl)) (from y (inl refl)) in
     let rest : xs ≡ ys = rises_unique xs ys a.1 b.1
-      (λ z h. in_rest x z y ys e (above_in x z xs a.0 h) (to z (inr h)))
-      (λ z h. in_rest y z x xs (sym e) (above_in y z ys b.0 h) (from z (inr h))) in
+    (λ z h. in_rest x z y ys e (above_in x z xs a.0 h) (to z (inr h)))
+    (λ z h. in_rest y z x xs (sym e) (above_in y z ys b.0 h) (from z (inr h))) in
     λ i. e i ∷ rest i
 
 -- a number put into an ascending list
@@ -82,7 +83,7 @@ above-with_number : (m n : ℕ) (ns : List ℕ) → m < n → AllAbove m ns → 
 above-with_number m n [] h all = (h, tt)
 above-with_number m n (x ∷ xs) h all =
     pick (AllAbove m) (nat_lt n x) (n == x) (n ∷ x ∷ xs) (x ∷ xs) (x ∷ with_number n xs)
-      (h, all) all (all.0, above-with_number m n xs h all.1)
+    (h, all) all (all.0, above-with_number m n xs h all.1)
 
 -- where neither test passes the number is greater
 rises_case : (n x : ℕ) (xs : List ℕ) (a b : Bool) → nat_lt n x ≡ a → (n == x) ≡ b → Rises (x ∷ xs) → Rises (with_number n xs) → Rises (if a then n ∷ x ∷ xs else if b then x ∷ xs else x ∷ with_number n xs)
@@ -98,7 +99,7 @@ in_case : (z n x : ℕ) (xs : List ℕ) (a b : Bool) → (n == x) ≡ b → (In 
 in_case z n x xs true b k rest h = h
 in_case z n x xs false true k rest h = inr h
 in_case z n x xs false false k rest (inl same) = inr (inl same)
-in_case z n x xs false false k rest (inr later) = elim (rest later) [ | inl same ↦ inl same | inr behind ↦ inr (inr behind) ]
+in_case z n x xs false false k rest (inr later) = elim (rest later) [ inl same ↦ inl same | inr behind ↦ inr (inr behind) ]
 
 in-with_number : (z n : ℕ) (ns : List ℕ) → In z (with_number n ns) → (z ≡ n) ⊎ In z ns
 in-with_number z n [] h = h
@@ -124,9 +125,9 @@ rises_fold acc (n ∷ ns) rises = rises_fold (with_number n acc) ns (rises-with_
 in_fold : (z : ℕ) (acc ns : List ℕ) → In z (fold (λ list n. with_number n list) acc ns) → In z acc ⊎ In z ns
 in_fold z acc [] h = inl h
 in_fold z acc (n ∷ ns) h = elim (in_fold z (with_number n acc) ns h) [
-      | inl there ↦ elim (in-with_number z n acc there) [ | inl same ↦ inr (inl same) | inr before ↦ inl before ]
-      | inr later ↦ inr (inr later)
-    ]
+  | inl there ↦ elim (in-with_number z n acc there) [ inl same ↦ inr (inl same) | inr before ↦ inl before ]
+  | inr later ↦ inr (inr later)
+]
 
 fold_in : (z : ℕ) (acc ns : List ℕ) → In z acc ⊎ In z ns → In z (fold (λ list n. with_number n list) acc ns)
 fold_in z acc [] (inl h) = h
@@ -136,7 +137,7 @@ fold_in z acc (n ∷ ns) (inr (inl same)) = fold_in z (with_number n acc) ns (in
 fold_in z acc (n ∷ ns) (inr (inr later)) = fold_in z (with_number n acc) ns (inr later)
 
 in_ascending : (z : ℕ) (ns : List ℕ) → In z (ascending ns) → In z ns
-in_ascending z ns h = elim (in_fold z [] ns h) [ | inl none ↦ absurd none | inr there ↦ there ]
+in_ascending z ns h = elim (in_fold z [] ns h) [ inl none ↦ absurd none | inr there ↦ there ]
 
 in_contains : (z : ℕ) (ns : List ℕ) → Contains ns z → In z ns
 in_contains z ns h = In_from z ns h.0 h.1 h.2
@@ -145,10 +146,10 @@ in_contains z ns h = In_from z ns h.0 h.1 h.2
 pub ascending_sorted : (ns sorted : List ℕ) → IsPermutation ns sorted → IsSorted nat_cmp sorted → dedup eqb sorted ≡ ascending ns
 ascending_sorted ns sorted permutation in_order =
     rises_unique (dedup eqb sorted) (ascending ns)
-      (rises_from (dedup eqb sorted) (AllPairs-from_increasing (dedup eqb sorted) (IsStrictlyIncreasing-dedup sorted in_order)))
-      (rises_fold [] ns tt)
-      (λ z h. fold_in z [] ns (inr (in_contains z ns (Contains-permutation sorted ns z (IsPermutation-sym ns sorted permutation) (Contains-from_dedup eqb sorted z (Contains_from z (dedup eqb sorted) h))))))
-      (λ z h. in_contains z (dedup eqb sorted) (Contains-dedup_nat sorted z (Contains-permutation ns sorted z permutation (Contains_from z ns (in_ascending z ns h)))))
+    (rises_from (dedup eqb sorted) (AllPairs-from_increasing (dedup eqb sorted) (IsStrictlyIncreasing-dedup sorted in_order)))
+    (rises_fold [] ns tt)
+    (λ z h. fold_in z [] ns (inr (in_contains z ns (Contains-permutation sorted ns z (IsPermutation-sym ns sorted permutation) (Contains-from_dedup eqb sorted z (Contains_from z (dedup eqb sorted) h))))))
+    (λ z h. in_contains z (dedup eqb sorted) (Contains-dedup_nat sorted z (Contains-permutation ns sorted z permutation (Contains_from z ns (in_ascending z ns h)))))
 
 increasing_from : (xs : List ℕ) → Rises xs → IsStrictlyIncreasing xs
 increasing_from [] rises k within = absurd (omega arith)

@@ -1,6 +1,5 @@
 -- Laws of the plain pass.
-use Rattle.std.proofs.Common.{◌≡◌, ℕ, suc, ◌+◌, ◌^◌, ◌<◌, ◌≤◌, List, [], ◌∷◌, ◌++◌, length, slice_set, map, refl, sym, ap, subst, ◌∙◌, arith, length-append}
-use Rattle.lt_seq.specs.declared.event.Deed.{Deed}
+use Rattle.std.proofs.Common.{◌≡◌, suc, ◌+◌, ◌^◌, ◌<◌, ◌≤◌, List, [], ◌∷◌, ◌++◌, length, slice_set, map, refl, sym, ap, subst, ◌∙◌, arith, length-append}
 use Rattle.lt_seq.specs.declared.event.Event.{Event}
 use Rattle.lt_seq.specs.declared.event.Receipt.{Receipt}
 use Rattle.lt_seq.specs.declared.plan.YardPlan.{YardPlan}
@@ -52,21 +51,21 @@ sequential_more plan trees mine receipt moved seq made =
     let e = receipt.event in
     let events = events_of-append mine receipt in
     let next : IsNext (plain plan) (after (plain plan) (events_of mine)) e =
-      record { pass = omega (arith, made.pass, seq.passes); tree = made.tree; question = made.question; replies = subst (λ ts. e.deed ≡ replied (plain plan) e.txn e.deed (tree_at ts (tree_of e.deed))) seq.trees made.replies } in
+    record { pass = omega (arith, made.pass, seq.passes); tree = made.tree; question = made.question; replies = subst (λ ts. e.deed ≡ replied (plain plan) e.txn e.deed (tree_at ts (tree_of e.deed))) seq.trees made.replies } in
     record {
       plan = seq.plan;
       passes = seq.passes;
       trees =
-        ap (λ t. slice_set trees (tree_of e.deed) t) made.moved_is
-        ∙ ap (λ ts. step (plain plan) ts e) seq.trees
-        ∙ sym (after_more (plain plan) (events_of mine) e)
-        ∙ ap (after (plain plan)) (sym events);
+          ap (λ t. slice_set trees (tree_of e.deed) t) made.moved_is
+          ∙ ap (λ ts. step (plain plan) ts e) seq.trees
+          ∙ sym (after_more (plain plan) (events_of mine) e)
+          ∙ ap (after (plain plan)) (sym events);
       legal = subst (λ l. IsLegal (plain plan) l) (sym events) (legal_more (plain plan) (events_of mine) e seq.legal next);
       mine =
-        ap (λ l. l ++ receipt ∷ []) seq.mine
-        ∙ ap (λ n. calls_from plan.first 0 (events_of mine) ++ record { place = n; event = e } ∷ []) (made.place ∙ ap (λ n. plan.first + n) (sym (length-events_of mine)))
-        ∙ sym (calls_more plan.first 0 (events_of mine) e made.pass)
-        ∙ ap (calls_from plan.first 0) (sym events);
+          ap (λ l. l ++ receipt ∷ []) seq.mine
+          ∙ ap (λ n. calls_from plan.first 0 (events_of mine) ++ record { place = n; event = e } ∷ []) (made.place ∙ ap (λ n. plan.first + n) (sym (length-events_of mine)))
+          ∙ sym (calls_more plan.first 0 (events_of mine) e made.pass)
+          ∙ ap (calls_from plan.first 0) (sym events);
       room = omega (arith, length-append mine (receipt ∷ []), made.room, made.place);
     }
 
@@ -94,5 +93,5 @@ rest_of plan passes before pass is of all one P rest =
     let same : pass.plan ≡ plan = last_of plan before pass (subst (AllByRecursion (λ p. origin_in p ≡ origin_of [] (plain plan))) is of) in
     let numbers = subst (λ ps. map (λ v. v.number) (map (λ p. p.view) ps) ≡ numbers_from 0 plan.passes) is all.numbers in
     let front : front_of_first (map (λ p. p.view) passes) ≡ pass.view.front =
-      ap (λ ps. front_of_first (map (λ p. p.view) ps)) is ∙ only_of plan before pass (ap (λ p. p.passes) (sym same) ∙ one) numbers in
+    ap (λ ps. front_of_first (map (λ p. p.view) ps)) is ∙ only_of plan before pass (ap (λ p. p.passes) (sym same) ∙ one) numbers in
     subst (λ front. P (plain plan) front) (sym front) (subst (λ plan. P (plain plan) pass.view.front) same rest)

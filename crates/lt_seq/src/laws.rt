@@ -1,5 +1,5 @@
 //! Laws of the table.
-ghost use Rattle.std.specs.Prelude.{◌≡◌, ◌≢◌, ℕ, ◌+◌, ◌≤◌, ◌==◌, ◌&&◌, List, [], ◌∷◌, ◌++◌, length, take, Result};
+ghost use Rattle.std.specs.Prelude.{◌≡◌, ◌≢◌, ℕ, ◌+◌, ◌^◌, ◌<◌, ◌≤◌, ◌==◌, ◌&&◌, List, [], ◌∷◌, ◌++◌, length, take, Result};
 ghost use Rattle.std.specs.List.{list_any};
 ghost use Rattle.std.specs.List.Sorted.{IsStrictlyIncreasing};
 ghost use Rattle.lt_ranges.specs.Interval.{Interval};
@@ -16,8 +16,8 @@ ghost use Rattle.lt_seq.specs.Sound.{IsLawfulTable};
 ghost use Rattle.lt_seq.specs.Rows.{WorkedRows};
 ghost use Rattle.lt_seq.specs.Table.{Setting, TreeState, opening, step, tree_at, used};
 ghost use Rattle.lt_seq.specs.History.{after, IsLegal, IsNext, calls_from};
-ghost use Rattle.lt_seq.specs.Yard.{PassView, HasAll, Answers, AskAnswers};
-ghost use Rattle.lt_seq.specs.Alone.{AloneAnswers, AloneAskAnswers};
+ghost use Rattle.lt_seq.specs.Yard.{PassView, HasAll, Answers, AskAnswers, place_after};
+ghost use Rattle.lt_seq.specs.Alone.{AloneAnswers, AloneAskAnswers, IsDone};
 
 /// The worked rows come out so.
 pub fn worked_rows()
@@ -37,15 +37,13 @@ pub fn lawful_tables()
     ensures opening { (setting : Setting) → IsLawfulTable setting (opening setting) }
     ensures step { (setting : Setting) (trees : List TreeState) (e : Event) → IsLawfulTable setting trees → IsNext setting trees e → IsLawfulTable setting (step setting trees e) }
     ensures history { (setting : Setting) (events : List Event) → IsLegal setting events → (k : ℕ) → IsLawfulTable setting (after setting (take k events)) }
-{
-}
+{}
 
 /// An event adds at most one row, and a legal history of n events leaves at most n rows in use.
 pub fn rows_in_use()
     ensures event { (setting : Setting) (trees : List TreeState) (e : Event) → IsLawfulTable setting trees → IsNext setting trees e → used (step setting trees e) ≤ used trees + 1 }
     ensures history { (setting : Setting) (events : List Event) → IsLegal setting events → used (after setting events) ≤ length events }
-{
-}
+{}
 
 /// A refusal names the other owners whose ranges overlap: exactly these, ascending, and at least one.
 pub fn refusals()
@@ -60,4 +58,11 @@ pub fn refusals()
 pub fn alone_answers()
     ensures ask { (setting : Setting) (old new : PassView) (txn : ℕ) (deed : Deed) (result : Result Receipt Fault) → AskAnswers setting old new txn deed result → HasAll setting old → AloneAskAnswers setting old new txn deed result }
     ensures others { (setting : Setting) (old new : PassView) (txn : ℕ) (deed : Deed) (result : Result Receipt Fault) → Answers setting old new txn deed result → HasAll setting old → AloneAnswers setting old new txn deed result }
+{}
+
+/// So a call of such a pass makes its event unless memory is short, where the place of the next event is below 2^39,
+/// and for an ask the rows in use below the limit.
+pub fn alone_completeness()
+    ensures ask { (setting : Setting) (old new : PassView) (txn : ℕ) (deed : Deed) (result : Result Receipt Fault) → AskAnswers setting old new txn deed result → HasAll setting old → place_after setting old.front < 2 ^ 39 → used (after setting old.front) < setting.plan.limit → IsDone result }
+    ensures others { (setting : Setting) (old new : PassView) (txn : ℕ) (deed : Deed) (result : Result Receipt Fault) → Answers setting old new txn deed result → HasAll setting old → place_after setting old.front < 2 ^ 39 → IsDone result }
 {}

@@ -18,3 +18,6 @@ pub use lists::{HeldList, Owners};
 pub use plan::YardPlan;
 pub use seq_yard::SeqYard;
 pub use yard::{Closed, Pass, Yard};
+
+#[cfg(test)]
+mod tests;

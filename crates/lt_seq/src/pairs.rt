@@ -75,7 +75,12 @@ pub(crate) fn grant(pairs: &mut Vec<Pair>, txn: u64, range: &KeyRange) -> Result
 }
 
 /// The owners other than the transaction whose ranges overlap, ascending and each once.
-pub(crate) fn others_of(alloc: Global, pairs: &[Pair], txn: u64, range: &KeyRange) -> Result<Vec<u64>, AllocError>
+pub(crate) fn others_of(
+    alloc: Global,
+    pairs: &[Pair],
+    txn: u64,
+    range: &KeyRange,
+) -> Result<Vec<u64>, AllocError>
     ensures { IfOk result (λ v. v.items ≡ others txn range.now pairs.now) }
 {
     let mut owners = Vec::new(alloc);

@@ -84,7 +84,12 @@ impl SeqPass {
     }
 
     /// Asks in a tree.
-    pub(crate) fn ask(&mut self, txn: u64, tree: u32, range: &KeyRange) -> Result<Receipt, AllocError>
+    pub(crate) fn ask(
+        &mut self,
+        txn: u64,
+        tree: u32,
+        range: &KeyRange,
+    ) -> Result<Receipt, AllocError>
         requires tree { tree < self.old.plan.trees }
         requires room { place_after (plain self.old.plan) self.old.view.front < 2 ^ 39 }
         ensures plan { self.new.plan ≡ self.old.plan }
@@ -105,7 +110,13 @@ impl SeqPass {
     }
 
     /// Frees in a tree.
-    pub(crate) fn free(&mut self, txn: u64, tree: u32, range: &KeyRange, first: bool) -> Result<Receipt, AllocError>
+    pub(crate) fn free(
+        &mut self,
+        txn: u64,
+        tree: u32,
+        range: &KeyRange,
+        first: bool,
+    ) -> Result<Receipt, AllocError>
         requires tree { tree < self.old.plan.trees }
         requires room { place_after (plain self.old.plan) self.old.view.front < 2 ^ 39 }
         ensures plan { self.new.plan ≡ self.old.plan }
@@ -187,14 +198,28 @@ fn freed(place: u64, txn: u64, tree: u32, range: &KeyRange, first: bool, count: 
     }
 }
 
-fn reply_in(trees: &[SeqTree], tree: u32, alloc: Global, buffer: u64, txn: u64, range: &KeyRange) -> Result<Reply, AllocError>
+fn reply_in(
+    trees: &[SeqTree],
+    tree: u32,
+    alloc: Global,
+    buffer: u64,
+    txn: u64,
+    range: &KeyRange,
+) -> Result<Reply, AllocError>
     requires { tree < length trees.now }
     ensures { IfOk result (λ reply. reply ≡ ask_reply buffer txn range.now (tree_at trees.now tree)) }
 {
     trees[tree as usize].reply(alloc, buffer, txn, range)
 }
 
-fn ask_in(trees: &mut Vec<SeqTree>, tree: u32, buffer: u64, txn: u64, range: &KeyRange, reply: &Reply) -> Result<(), AllocError>
+fn ask_in(
+    trees: &mut Vec<SeqTree>,
+    tree: u32,
+    buffer: u64,
+    txn: u64,
+    range: &KeyRange,
+    reply: &Reply,
+) -> Result<(), AllocError>
     requires tree { tree < length trees.old.items }
     requires reply { reply.now ≡ ask_reply buffer txn range.now (tree_at trees.old.items tree) }
     ensures ok { OnOk result (trees.new.items ≡ slice_set trees.old.items tree (after_ask buffer txn range.now (tree_at trees.old.items tree))) }

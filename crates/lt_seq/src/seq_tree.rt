@@ -69,7 +69,13 @@ impl SeqTree {
     }
 
     /// The answer to an ask.
-    pub(crate) fn reply(&self, alloc: Global, buffer: u64, txn: u64, range: &KeyRange) -> Result<Reply, AllocError>
+    pub(crate) fn reply(
+        &self,
+        alloc: Global,
+        buffer: u64,
+        txn: u64,
+        range: &KeyRange,
+    ) -> Result<Reply, AllocError>
         ensures { IfOk result (λ reply. reply ≡ ask_reply buffer txn range.now self.now) }
     {
         if self.is_buffered(buffer, txn) {
@@ -84,7 +90,13 @@ impl SeqTree {
     }
 
     /// Does what an ask does, whose answer is this.
-    pub(crate) fn ask(&mut self, buffer: u64, txn: u64, range: &KeyRange, reply: &Reply) -> Result<(), AllocError>
+    pub(crate) fn ask(
+        &mut self,
+        buffer: u64,
+        txn: u64,
+        range: &KeyRange,
+        reply: &Reply,
+    ) -> Result<(), AllocError>
         requires { reply.now ≡ ask_reply buffer txn range.now self.old }
         ensures ok { OnOk result (self.new ≡ after_ask buffer txn range.now self.old) }
         ensures err { OnErr result (self.new ≡ self.old) }

@@ -55,7 +55,13 @@ impl Yard for SeqYard {
         pass.look()
     }
 
-    fn ask(&self, pass: &mut SeqPass, txn: u64, tree: u32, range: &KeyRange) -> Result<Receipt, Fault> {
+    fn ask(
+        &self,
+        pass: &mut SeqPass,
+        txn: u64,
+        tree: u32,
+        range: &KeyRange,
+    ) -> Result<Receipt, Fault> {
         let look = pass.look();
         if look.place >= PLACES_END {
             return Err(Fault::HistoryFull { place: look.place });
@@ -67,22 +73,25 @@ impl Yard for SeqYard {
             });
         }
         match pass.ask(txn, tree, range) {
-            Ok(receipt) => {
-                        Ok(receipt)
-            }
+            Ok(receipt) => { Ok(receipt) }
             Err(AllocError) => Err(Fault::OutOfMemory),
         }
     }
 
-    fn free(&self, pass: &mut SeqPass, txn: u64, tree: u32, range: &KeyRange, first: bool) -> Result<Receipt, Fault> {
+    fn free(
+        &self,
+        pass: &mut SeqPass,
+        txn: u64,
+        tree: u32,
+        range: &KeyRange,
+        first: bool,
+    ) -> Result<Receipt, Fault> {
         let look = pass.look();
         if look.place >= PLACES_END {
             return Err(Fault::HistoryFull { place: look.place });
         }
         match pass.free(txn, tree, range, first) {
-            Ok(receipt) => {
-                        Ok(receipt)
-            }
+            Ok(receipt) => { Ok(receipt) }
             Err(AllocError) => Err(Fault::OutOfMemory),
         }
     }

@@ -18,19 +18,19 @@ next c =
     let is = c.self.view_is in
     let reply : c.in_ok-kept.kept ≡ ask_reply inside.plan.buffer c.args.txn c.args.range.now (tree_at inside.trees.items c.args.tree) = search rules in
     sequential_to inside.plan inside.trees.items c.ask_in.new.trees.items inside.mine.items c.push.new.self.items
-      (record { place = inside.plan.first + c.len.result; event = record { pass = 0; txn = c.args.txn; deed = Ask c.args.tree c.args.range.now c.in_ok-kept.kept } }) _
-      c.self.invariant
-      (record {
-        pass = refl;
-        place = grind arith;
-        room = omega (arith, ap (λ p. p.plan.first) is, ap (λ p. length p.view.front) is, length-events_of inside.mine.items, c.requires.room);
-        tree = omega (arith, ap (λ p. p.plan.trees) is);
-        question = c.left-left.ensures.ordered;
-        replies = ap (Ask c.args.tree c.args.range.now) reply;
-        moved_is = refl;
-      })
-      (search rules)
-      (search rules)
+    (record { place = inside.plan.first + c.len.result; event = record { pass = 0; txn = c.args.txn; deed = Ask c.args.tree c.args.range.now c.in_ok-kept.kept } }) _
+    c.self.invariant
+    (record {
+      pass = refl;
+      place = grind arith;
+      room = omega (arith, ap (λ p. p.plan.first) is, ap (λ p. length p.view.front) is, length-events_of inside.mine.items, c.requires.room);
+      tree = omega (arith, ap (λ p. p.plan.trees) is);
+      question = c.left-left.ensures.ordered;
+      replies = ap (Ask c.args.tree c.args.range.now) reply;
+      moved_is = refl;
+    })
+    (search rules)
+    (search rules)
 
 pub invariant_of-self-2 : goal.invariant_of-self-2
 invariant_of-self-2 c = next c

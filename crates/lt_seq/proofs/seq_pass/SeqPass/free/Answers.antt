@@ -14,19 +14,19 @@ next c =
     let is = c.self.view_is in
     let deed = Free c.args.tree c.args.range.now c.args.first c.free_in-count.result in
     sequential_to inside.plan inside.trees.items c.free_in-count.new.trees.items inside.mine.items c.push.new.self.items
-      (record { place = inside.plan.first + c.len.result; event = record { pass = 0; txn = c.args.txn; deed = deed } }) _
-      c.self.invariant
-      (record {
-        pass = refl;
-        place = grind arith;
-        room = omega (arith, ap (λ p. p.plan.first) is, ap (λ p. length p.view.front) is, length-events_of inside.mine.items, c.requires.room);
-        tree = omega (arith, ap (λ p. p.plan.trees) is);
-        question = c.left-left.ensures.ordered;
-        replies = ap (Free c.args.tree c.args.range.now c.args.first) c.free_in-count.ensures.count;
-        moved_is = refl;
-      })
-      c.free_in-count.ensures.after
-      (search rules)
+    (record { place = inside.plan.first + c.len.result; event = record { pass = 0; txn = c.args.txn; deed = deed } }) _
+    c.self.invariant
+    (record {
+      pass = refl;
+      place = grind arith;
+      room = omega (arith, ap (λ p. p.plan.first) is, ap (λ p. length p.view.front) is, length-events_of inside.mine.items, c.requires.room);
+      tree = omega (arith, ap (λ p. p.plan.trees) is);
+      question = c.left-left.ensures.ordered;
+      replies = ap (Free c.args.tree c.args.range.now c.args.first) c.free_in-count.ensures.count;
+      moved_is = refl;
+    })
+    c.free_in-count.ensures.after
+    (search rules)
 
 pub invariant_of-self-2 : goal.invariant_of-self-2
 invariant_of-self-2 c = next c
