@@ -7,3 +7,4 @@ pub mod YardLaws
 pub mod NumbersLaws
 pub mod SeqLaws
 pub mod RefusalLaws
+pub mod JoinLaws

@@ -1,17 +1,19 @@
 //! Laws of the table.
-ghost use Rattle.std.specs.Prelude.{◌≡◌, ◌≢◌, ℕ, ◌+◌, ◌^◌, ◌<◌, ◌≤◌, ◌==◌, ◌&&◌, List, [], ◌∷◌, ◌++◌, length, take, Result};
+ghost use Rattle.std.specs.Prelude.{◌≡◌, ◌≢◌, ℕ, ◌+◌, ◌^◌, ◌<◌, ◌≤◌, ◌==◌, ◌&&◌, List, [], ◌∷◌, ◌++◌, length, take, Result, true};
 ghost use Rattle.std.specs.List.{list_any};
 ghost use Rattle.std.specs.List.Sorted.{IsStrictlyIncreasing};
+ghost use Rattle.lt_ranges.specs.declared.key.Key.{Key};
 ghost use Rattle.lt_ranges.specs.Interval.{Interval};
 ghost use Rattle.lt_ranges.specs.Numbers.{is_in};
 ghost use Rattle.lt_seq.specs.declared.event.Deed.{Deed};
 ghost use Rattle.lt_seq.specs.declared.event.Deed.TheVariants.{Ask};
 ghost use Rattle.lt_seq.specs.declared.event.Pair.{Pair};
 ghost use Rattle.lt_seq.specs.declared.event.Reply.TheVariants.{HeldBy};
-ghost use Rattle.lt_seq.specs.Pairs.{is_others, others};
+ghost use Rattle.lt_seq.specs.Pairs.{IsLawful, is_others, others, joined};
 ghost use Rattle.lt_seq.specs.declared.event.Event.{Event};
 ghost use Rattle.lt_seq.specs.declared.event.Receipt.{Receipt};
 ghost use Rattle.lt_seq.specs.declared.fault.Fault.{Fault};
+ghost use Rattle.lt_seq.specs.Joins.{Joins, holds};
 ghost use Rattle.lt_seq.specs.Sound.{IsLawfulTable};
 ghost use Rattle.lt_seq.specs.Rows.{WorkedRows};
 ghost use Rattle.lt_seq.specs.Table.{Setting, TreeState, opening, step, tree_at, used};
@@ -50,6 +52,14 @@ pub fn refusals()
     ensures named { (setting : Setting) (trees : List TreeState) (e : Event) (tree : ℕ) (range : Interval) (owners : List ℕ) → IsNext setting trees e → e.deed ≡ Ask tree range (HeldBy owners) → (owners ≡ others e.txn range (tree_at trees tree).pairs) × (owners ≢ []) }
     ensures exact { (txn : ℕ) (range : Interval) (pairs : List Pair) (owner : ℕ) → is_in owner (others txn range pairs) ≡ list_any (λ p. (p.owner == owner) && is_others txn range p) pairs }
     ensures ascending { (txn : ℕ) (range : Interval) (pairs : List Pair) → IsStrictlyIncreasing (others txn range pairs) }
+{}
+
+/// What a join does to lawful pairs: each owner keeps all its keys, and a key that it gains lies between two of its
+/// ranges that are neighbours; no two neighbours of one owner are left that no mark keeps apart. So no owner is given
+/// a key that another holds.
+pub fn joined_keeps()
+    ensures joins { (marks : List Key) (pairs : List Pair) → IsLawful pairs → Joins marks pairs (joined marks pairs) }
+    ensures others { (marks : List Key) (a b : ℕ) (key : Key) (pairs : List Pair) → IsLawful pairs → holds a key pairs ≡ true → holds b key (joined marks pairs) ≡ true → a ≡ b }
 {}
 
 /// The answers to a pass that has all the rights, in any yard: one event more, at once, or want of memory, or a full
