@@ -1,7 +1,9 @@
 //! Plays traces.
 #![tactic(auto)]
 
+mod calls;
 pub mod laws;
+mod play;
 pub mod release;
 pub mod turn;
 
