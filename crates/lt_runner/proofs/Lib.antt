@@ -1,1 +1,5 @@
 pub mod FreeLaws
+pub mod TurnsLaws
+pub mod PlaceLaws
+pub mod QuietLaws
+pub mod LineLaws

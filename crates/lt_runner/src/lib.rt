@@ -6,6 +6,7 @@ pub mod laws;
 mod play;
 pub mod release;
 pub mod turn;
+mod turns;
 
 pub use release::Release;
 pub use turn::{Recorded, Turn};
