@@ -3,3 +3,4 @@ pub mod TurnsLaws
 pub mod PlaceLaws
 pub mod QuietLaws
 pub mod LineLaws
+pub mod ScheduleLaws

@@ -165,15 +165,32 @@ added_open setting txn number recorded deed turns events released there plain =
 
 -- What a step leaves.
 
--- no less is known of the turn than before, and it makes at most one event more than frees that it no longer owes
-pub record Keeps (setting : Setting) (old new : Step) : Type 0 where
+-- by how much the events and the frees that are owed may grow at a line
+abbrev pub gain_of : LineDeed → ℕ
+gain_of (Try tree range) = 3
+gain_of (Lock tree range) = 0
+gain_of End = 0
+gain_of Abort = 0
+gain_of (Escalate tree) = 0
+gain_of Big = 0
+
+pub gain_most : (deed : LineDeed) → gain_of deed ≤ 3
+gain_most (Try tree range) = omega arith
+gain_most (Lock tree range) = omega arith
+gain_most End = omega arith
+gain_most Abort = omega arith
+gain_most (Escalate tree) = omega arith
+gain_most Big = omega arith
+
+-- no less is known of the turn than before
+pub record Keeps (setting : Setting) (gain : ℕ) (old new : Step) : Type 0 where
   pub txn : new.turn.txn ≡ old.turn.txn
   pub quiet : IsQuiet setting new.turn
-  pub owed : length new.events + owed new.turn ≤ length old.events + owed old.turn + 3
+  pub owed : length new.events + owed new.turn ≤ length old.events + owed old.turn + gain
 
 keeps_answer : (setting : Setting) (txn : ℕ) (recorded : List Recorded) (events : List Event) (e : Event) (tree : ℕ) (range : Interval) (reply : Reply) →
     IsQuiet setting (open_turn txn recorded) → tree < length recorded →
-    Keeps setting (step_at events (open_turn txn recorded)) (step_at (events ++ e ∷ []) (answered_by tree range reply (open_turn txn recorded)))
+    Keeps setting 3 (step_at events (open_turn txn recorded)) (step_at (events ++ e ∷ []) (answered_by tree range reply (open_turn txn recorded)))
 keeps_answer setting txn recorded events e tree range Granted quiet inside =
     let before = get_or recorded tree nothing_recorded in
     let now : Recorded = record { ranges = before.ranges ++ range ∷ []; buffered = false } in
@@ -196,26 +213,26 @@ keeps_answer setting txn recorded events e tree range (HeldBy owners) quiet insi
   owed = omega (arith, length-append events (e ∷ []));
 }
 
-keeps_ended : (setting : Setting) (txn : ℕ) (recorded : List Recorded) (events : List Event) (outcome : Outcome) → IsQuiet setting (open_turn txn recorded) →
-    Keeps setting (step_at events (open_turn txn recorded)) (ended_by setting outcome (step_at events (open_turn txn recorded)))
-keeps_ended setting txn recorded events outcome quiet = record {
+keeps_ended : (setting : Setting) (txn : ℕ) (recorded : List Recorded) (events : List Event) (outcome : Outcome) (gain : ℕ) → IsQuiet setting (open_turn txn recorded) →
+    Keeps setting gain (step_at events (open_turn txn recorded)) (ended_by setting outcome (step_at events (open_turn txn recorded)))
+keeps_ended setting txn recorded events outcome gain quiet = record {
   txn = refl;
   quiet = record { txn = quiet.txn; lines = refl; waits = refl; recorded = quiet.recorded; releases = refl; big = refl };
   owed = omega (arith, length-freed setting txn (releases_from 0 recorded) events, length-releases_from 0 recorded);
 }
 
 keeps_by_room : (setting : Setting) (txn : ℕ) (recorded : List Recorded) (events : List Event) (tree : ℕ) (range : Interval) → IsQuiet setting (open_turn txn recorded) → tree < length recorded → (room : Bool) →
-    Keeps setting (step_at events (open_turn txn recorded)) (try_step setting txn recorded events tree range room)
+    Keeps setting 3 (step_at events (open_turn txn recorded)) (try_step setting txn recorded events tree range room)
 keeps_by_room setting txn recorded events tree range quiet inside true = keeps_answer setting txn recorded events _ tree range _ quiet inside
-keeps_by_room setting txn recorded events tree range quiet inside false = keeps_ended setting txn recorded events _ quiet
+keeps_by_room setting txn recorded events tree range quiet inside false = keeps_ended setting txn recorded events _ 3 quiet
 
 keeps_open : (setting : Setting) (txn : ℕ) (recorded : List Recorded) (events : List Event) (deed : LineDeed) → IsQuiet setting (open_turn txn recorded) → IsPlain setting deed →
-    Keeps setting (step_at events (open_turn txn recorded)) (lined setting deed (step_at events (open_turn txn recorded)))
+    Keeps setting (gain_of deed) (step_at events (open_turn txn recorded)) (lined setting deed (step_at events (open_turn txn recorded)))
 keeps_open setting txn recorded events (Try tree range) quiet plain =
     let inside : tree < length recorded = omega (arith, quiet.recorded) in
     keeps_by_room setting txn recorded events tree range quiet inside (nat_lt (used (after setting events)) setting.plan.limit)
 keeps_open setting txn recorded events (Lock tree range) quiet plain = absurd plain
-keeps_open setting txn recorded events End quiet plain = keeps_ended setting txn recorded events Done quiet
+keeps_open setting txn recorded events End quiet plain = keeps_ended setting txn recorded events Done 0 quiet
 keeps_open setting txn recorded events Abort quiet plain = absurd plain
 keeps_open setting txn recorded events (Escalate tree) quiet plain = absurd plain
 keeps_open setting txn recorded events Big quiet plain = absurd plain
@@ -233,20 +250,20 @@ is_open setting turn quiet goes =
     λ i. record { txn = turn.txn; lines = quiet.lines i; waits = quiet.waits i; recorded = turn.recorded; outcome = none i; releases = quiet.releases i; big = quiet.big i }
 
 keeps_lined : (setting : Setting) (turn : Turn) (events : List Event) (deed : LineDeed) → IsQuiet setting turn → is_some turn.outcome ≡ false → IsPlain setting deed →
-    Keeps setting (step_at events turn) (lined setting deed (step_at events turn))
+    Keeps setting (gain_of deed) (step_at events turn) (lined setting deed (step_at events turn))
 keeps_lined setting turn events deed quiet goes plain =
     let e = is_open setting turn quiet goes in
-    let P = λ (t : Turn). Keeps setting (step_at events t) (lined setting deed (step_at events t)) in
+    let P = λ (t : Turn). Keeps setting (gain_of deed) (step_at events t) (lined setting deed (step_at events t)) in
     subst P (sym e) (keeps_open setting turn.txn turn.recorded events deed (subst (IsQuiet setting) e quiet) plain)
 
-keeps_choice : (setting : Setting) (turn : Turn) (events : List Event) (deed : LineDeed) → IsQuiet setting turn → (ended : Bool) → (ended ≡ false → Keeps setting (step_at events turn) (lined setting deed (step_at events turn))) →
-    Keeps setting (step_at events turn) (if ended then step_at events turn else lined setting deed (step_at events turn))
+keeps_choice : (setting : Setting) (turn : Turn) (events : List Event) (deed : LineDeed) → IsQuiet setting turn → (ended : Bool) → (ended ≡ false → Keeps setting (gain_of deed) (step_at events turn) (lined setting deed (step_at events turn))) →
+    Keeps setting (gain_of deed) (step_at events turn) (if ended then step_at events turn else lined setting deed (step_at events turn))
 keeps_choice setting turn events deed quiet true on_open = record { txn = refl; quiet = quiet; owed = omega arith }
 keeps_choice setting turn events deed quiet false on_open = on_open refl
 
 -- whether it has ended or not
 pub keeps_played : (setting : Setting) (turn : Turn) (events : List Event) (deed : LineDeed) → IsQuiet setting turn → IsPlain setting deed →
-    Keeps setting (step_at events turn) (played_by setting deed (step_at events turn))
+    Keeps setting (gain_of deed) (step_at events turn) (played_by setting deed (step_at events turn))
 keeps_played setting turn events deed quiet plain =
     keeps_choice setting turn events deed quiet (is_some turn.outcome) (λ goes. keeps_lined setting turn events deed quiet goes plain)
 
@@ -261,11 +278,6 @@ added_lined setting turn line turns events released there quiet goes same plain 
     subst P (sym e) (ap (λ (k : Line). added setting k (open_turn turn.txn turn.recorded) (game_at events turns released)) l
     ∙ added_open setting turn.txn line.number turn.recorded line.deed turns events released there plain)
 
--- the turns, where each line is played at once
-pub record Stands (setting : Setting) (turns : List Turn) : Type 0 where
-  pub sorted : IsStrictlySortedBy nat_cmp (numbers_of turns)
-  pub quiet : All (IsQuiet setting) turns
-
 is_there : (setting : Setting) (turns : List Turn) (i : ℕ) (d : Turn) → IsStrictlySortedBy nat_cmp (numbers_of turns) → i < length turns → IsThere setting (get_or turns i d).txn turns
 is_there setting turns i d sorted inside turn same =
     let e = with_turn_at turn turns i d sorted inside (sym same) in
@@ -274,7 +286,7 @@ is_there setting turns i d sorted inside turn same =
     ∙ turn_of_at setting (get_or turns i d).txn (slice_set turns i turn) i d (subst (IsStrictlySortedBy nat_cmp) (sym kept) sorted) (omega (arith, length-set turns i turn)) (ap (λ (t : Turn). t.txn) (get_or-set_same turns i turn d inside) ∙ same)
     ∙ get_or-set_same turns i turn d inside
 
-taken_choice : (setting : Setting) (line : Line) (events : List Event) (turns : List Turn) (i : ℕ) (d : Turn) → IsStrictlySortedBy nat_cmp (numbers_of turns) → All (IsQuiet setting) turns →
+pub taken_choice : (setting : Setting) (line : Line) (events : List Event) (turns : List Turn) (i : ℕ) (d : Turn) → IsStrictlySortedBy nat_cmp (numbers_of turns) → All (IsQuiet setting) turns →
     i < length turns → (get_or turns i d).txn ≡ line.txn → IsPlain setting line.deed → (ended : Bool) → is_some (get_or turns i d).outcome ≡ ended →
     settled setting (numbers_of turns) (added setting line (get_or turns i d) (game_at events turns false))
     ≡ (let step = if ended then step_at events (get_or turns i d) else lined setting line.deed (step_at events (get_or turns i d)) in game_at step.events (slice_set turns i step.turn) false)

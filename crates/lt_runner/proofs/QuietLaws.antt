@@ -29,7 +29,7 @@ pub swept_quiet : (setting : Setting) (txns : List ℕ) (events : List Event) (t
 swept_quiet setting txns events turns released all = retried_quiet setting (game_at events turns false) txns all
 
 -- without a release there is no sweep
-settled_still : (setting : Setting) (txns left : List ℕ) (events : List Event) (turns : List Turn) →
+pub settled_still : (setting : Setting) (txns left : List ℕ) (events : List Event) (turns : List Turn) →
     fold (λ game (txn : ℕ). swept_if_released setting txns game) (game_at events turns false) left ≡ game_at events turns false
 unfolding swept_if_released
 settled_still setting txns [] events turns = refl

@@ -1,5 +1,9 @@
 -- What a line comes to where no turn waits: all of it happens at once.
-use Rattle.std.specs.Prelude.{◌≡◌, ℕ, ◌+◌, ◌^◌, ◌<◌, ◌≤◌, List, [], ◌∷◌, ◌++◌, length, map, sum_by, Option, Some, None, Bool, true, false, is_none, is_some, nat_lt, if◌then◌else◌}
+use Rattle.std.specs.Prelude.{◌≡◌, ℕ, ◌+◌, ◌^◌, ◌<◌, ◌≤◌, List, [], ◌∷◌, ◌++◌, length, map, sum_by, Option, Some, None, Bool, true, false, is_none, is_some, nat_lt, if◌then◌else◌, IsTrue}
+use Rattle.std.specs.List.{All}
+use Rattle.std.specs.List.Sorted.{IsStrictlySortedBy}
+use Rattle.std.specs.Ordering.{nat_cmp}
+use Rattle.lt_ranges.specs.Numbers.{is_in}
 use Rattle.lt_ranges.specs.Interval.{Interval}
 use Rattle.lt_seq.specs.declared.event.Deed.TheVariants.{Ask, Free}
 use Rattle.lt_seq.specs.declared.event.Reply.TheVariants.{Granted}
@@ -7,6 +11,7 @@ use Rattle.lt_seq.specs.declared.event.Event.{Event}
 use Rattle.lt_seq.specs.Table.{Setting, used}
 use Rattle.lt_seq.specs.History.{after, IsLegal}
 use Rattle.lt_seq.specs.Yard.{PassView, HasAll, IsPlan, place_after, event_after}
+use Rattle.lt_trace.specs.declared.line.Line.{Line}
 use Rattle.lt_trace.specs.declared.line.LineDeed.{LineDeed}
 use Rattle.lt_trace.specs.declared.line.LineDeed.TheVariants.{Try, Lock, End, Abort, Escalate, Big}
 use Rattle.lt_history.specs.declared.outcome.Outcome.{Outcome}
@@ -95,5 +100,21 @@ owed turn = if is_some turn.outcome then 0 else sum_by owed_in turn.recorded
 abbrev pub HasPlaces : Setting → List Event → ℕ → Type 0
 HasPlaces setting events count = place_after setting events + count < 2 ^ 39
 
+abbrev pub owed_by : List Turn → ℕ
+owed_by turns = sum_by owed turns
+
 abbrev pub numbers_of : List Turn → List ℕ
 numbers_of turns = map (λ turn. turn.txn) turns
+
+-- the turns ascend, and no line is put off
+pub record AreQuiet (setting : Setting) (turns : List Turn) : Type 0 where
+  pub sorted : IsStrictlySortedBy nat_cmp (numbers_of turns)
+  pub quiet : All (IsQuiet setting) turns
+
+-- the line is played so, and is of one of these transactions
+pub record IsPlayable (setting : Setting) (txns : List ℕ) (line : Line) : Type 0 where
+  pub plain : IsPlain setting line.deed
+  pub there : IsTrue (is_in line.txn txns)
+
+abbrev pub HasEnded : Turn → Type 0
+HasEnded turn = IsTrue (is_some turn.outcome)

@@ -5,6 +5,7 @@ mod calls;
 pub mod laws;
 mod play;
 pub mod release;
+pub mod serial;
 pub mod turn;
 mod turns;
 
