@@ -6,3 +6,6 @@ pub mod transcript;
 
 pub use outcome::{Ended, Outcome};
 pub use transcript::print;
+
+#[cfg(test)]
+mod tests;

@@ -1,8 +1,7 @@
 //! The transcript: the text of a run.
-ghost use Rattle.std.specs.Prelude.{◌≡◌, ◌++◌, ◌<◌, length, OnOk, IfOk, false};
+ghost use Rattle.std.specs.Prelude.{◌≡◌, ◌++◌, OnOk, IfOk};
 ghost use Rattle.std.specs.List.{flat_map};
-ghost use Rattle.std.specs.Fmt.{digit_glyph};
-ghost use Rattle.lt_ranges.specs.KeyText.{byte_text, key_text, range_text, spaced};
+ghost use Rattle.lt_ranges.specs.KeyText.{key_text, range_text, spaced};
 ghost use Rattle.lt_history.specs.Text.{held_by, reply_text, holders_text, deed_text, event_line, walk_text, out_of_locks_text, outcome_text, ended_line, end_line, text};
 
 use crate::outcome::{Ended, Outcome};
@@ -14,7 +13,13 @@ use std::alloc::{AllocError, Global};
 
 /// The transcript: the events by place, one line each, then one line for each transaction, then the number of
 /// events and the used rows after them.
-pub fn print(alloc: Global, receipts: &[Receipt], outcomes: &[Ended], places: u64, used: u64) -> Result<Vec<u8>, AllocError>
+pub fn print(
+    alloc: Global,
+    receipts: &[Receipt],
+    outcomes: &[Ended],
+    places: u64,
+    used: u64,
+) -> Result<Vec<u8>, AllocError>
     ensures { IfOk result (λ out. out.items ≡ text receipts.now outcomes.now places used) }
 {
     let mut out = Vec::new(alloc);
@@ -45,56 +50,11 @@ fn push_end(out: &mut Vec<u8>, count: u64, used: u64) -> Result<(), AllocError>
     Ok(())
 }
 
-/// A hexadecimal digit.
-fn digit(n: u8) -> u8
-    requires { n < 16 }
-    ensures { result ≡ digit_glyph false n }
-{
-    if n < 10 { b'0' + n } else { b'a' + (n - 10) }
-}
-
-/// Writes one byte of a key.
-fn push_byte(out: &mut Vec<u8>, byte: u8) -> Result<(), AllocError>
-    ensures { OnOk result (out.new.items ≡ out.old.items ++ byte_text byte) }
-{
-    if byte >= b' ' && byte <= b'~' && byte != b'"' && byte != b'\\' {
-        out.push(byte)?;
-    } else {
-        out.extend_from_slice(b"\\x")?;
-        out.push(digit(byte / 16))?;
-        out.push(digit(byte % 16))?;
-    }
-    Ok(())
-}
-
-/// Writes the bytes of a key.
-fn push_bytes(out: &mut Vec<u8>, bytes: &[u8]) -> Result<(), AllocError>
-    ensures { OnOk result (out.new.items ≡ out.old.items ++ flat_map byte_text bytes.now) }
-{
-    for byte in bytes {
-        push_byte(out, *byte)?;
-    }
-    Ok(())
-}
-
 /// Writes a key.
 fn push_key(out: &mut Vec<u8>, key: &Key) -> Result<(), AllocError>
     ensures { OnOk result (out.new.items ≡ out.old.items ++ key_text key.now) }
 {
-    match key {
-        Key::Below => out.extend_from_slice(b"-")?,
-        Key::Bytes(bytes) => {
-            out.extend_from_slice(b"\"")?;
-            push_bytes(out, bytes.as_slice())?;
-            out.extend_from_slice(b"\"")?;
-        }
-        Key::After(bytes) => {
-            out.extend_from_slice(b"\"")?;
-            push_bytes(out, bytes.as_slice())?;
-            out.extend_from_slice(b"\"*")?;
-        }
-        Key::Above => out.extend_from_slice(b"+")?,
-    }
+    out.extend_from_slice(key.text().as_slice())?;
     Ok(())
 }
 
@@ -161,20 +121,34 @@ fn push_deed(out: &mut Vec<u8>, deed: &Deed) -> Result<(), AllocError>
             push_range(out, range)?;
             push_reply(out, reply)?;
         }
-        Deed::Free { tree, range, count, .. } => {
+        Deed::Free {
+            tree,
+            range,
+            count,
+            ..
+        } => {
             out.extend_from_slice(b" free")?;
             push_spaced(out, u64::from(*tree))?;
             push_range(out, range)?;
             push_spaced(out, *count)?;
         }
-        Deed::Who { tree, range, as_txn, owners } => {
+        Deed::Who {
+            tree,
+            range,
+            as_txn,
+            owners,
+        } => {
             out.extend_from_slice(b" who")?;
             push_spaced(out, u64::from(*tree))?;
             push_range(out, range)?;
             push_spaced(out, *as_txn)?;
             push_holders(out, owners.as_slice())?;
         }
-        Deed::Join { tree, before, after } => {
+        Deed::Join {
+            tree,
+            before,
+            after,
+        } => {
             out.extend_from_slice(b" join")?;
             push_spaced(out, u64::from(*tree))?;
             push_spaced(out, *before)?;

@@ -55,7 +55,7 @@ differs Less p e = refl
 differs Equal p e = e
 differs Greater p e = refl
 
-bytes_differ : (xs ys : List ℕ) → false ≡ is_eq (slice_cmp symbol_cmp (map Some xs) (map Some ys ++ None ∷ []))
+pub bytes_differ : (xs ys : List ℕ) → false ≡ is_eq (slice_cmp symbol_cmp (map Some xs) (map Some ys ++ None ∷ []))
 bytes_differ [] [] = refl
 bytes_differ [] (y ∷ ys) = refl
 bytes_differ (x ∷ xs) [] = refl

@@ -1,4 +1,4 @@
-pub mod KeyStore
+pub mod ByteStore
 pub mod Key
 pub mod KeyOrder
 pub mod Interval

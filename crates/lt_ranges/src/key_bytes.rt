@@ -3,7 +3,9 @@ ghost use Rattle.std.specs.Prelude.{◌≡◌, ℕ, ◌+◌, ◌-◌, ◌<◌, �
 ghost use Rattle.std.specs.Ordering.{nat_cmp};
 ghost use Rattle.std.specs.Cmp.{partial_equiv_from_equiv};
 ghost use Rattle.std.specs.Cmp.Lexicographic.{pointwise, slice_cmp, nat_list_eq_equiv, nat_list_cmp_total, texts_po, texts_ties};
+ghost use Rattle.lt_ranges.specs.Numbers.{AreBytes};
 
+use crate::byte_store::ByteStore;
 use std::cmp::Ordering;
 use std::fmt;
 use std::marker::Model;
@@ -13,34 +15,28 @@ use thiserror::Error;
 pub const MOST_KEY_BYTES: usize = 63;
 
 /// A key was longer than 63 bytes.
-#[derive(Debug, Drop, Error)]
+#[derive(Clone, Copy, Debug, PartialEq, Eq, Error)]
 #[error("a key has at most 63 bytes")]
 pub struct KeyTooLong;
 
 /// Up to 63 bytes, which lie in the value itself.
 #[derive(Clone, Copy)]
 pub struct KeyBytes {
-    bytes: [u8; 63],
-    len: u8,
+    store: ByteStore<MOST_KEY_BYTES>,
 }
 
 impl Model for KeyBytes {
-    ghost use Rattle.std.specs.Prelude.{List, ℕ, take, length, replicate, ◌++◌, ◌-◌};
-    ghost use Rattle.lt_ranges.specs.KeyStore.{IsPadded, padded_again, length_again};
+    ghost use Rattle.std.specs.Prelude.{List, ℕ};
 
     ghost Value = { List ℕ };
 
-    ghost view = { λ k. take k.len k.bytes };
+    ghost view = { λ k. k.store };
 
-    ghost invariant = { λ k. IsPadded k.bytes k.len };
-
-    ghost inverse = { λ xs. record { bytes = xs ++ replicate (63 - length xs) 0; len = length xs } };
-
-    ghost inverse_ok = { λ k h i. record { bytes = padded_again k.bytes k.len h i; len = length_again k.bytes k.len h i } };
+    ghost inverse = { λ xs. record { store = xs } };
 }
 
 impl KeyBytes {
-    /// The store of these bytes, refused where they are more than 63.
+    /// These bytes in a store, refused where they are more than 63.
     pub(crate) fn new(bytes: &[u8]) -> Result<KeyBytes, KeyTooLong>
         ensures refused { IsErr result ↔ (63 < length bytes.now) }
         ensures value { IfOk result (λ stored. stored ≡ bytes.now) }
@@ -48,22 +44,27 @@ impl KeyBytes {
         if bytes.len() > MOST_KEY_BYTES {
             return Err(KeyTooLong);
         }
-        let mut store = [0u8; MOST_KEY_BYTES];
-        for (i, byte) in bytes.iter().enumerate() {
-            store[i] = *byte;
+        let mut store = ByteStore::empty();
+        for byte in bytes {
+            store.push(*byte);
         }
-        Ok(KeyBytes {
-            bytes: store,
-            len: bytes.len() as u8,
-        })
+        Ok(KeyBytes { store })
+    }
+
+    /// The bytes of a store.
+    pub(crate) fn of(store: ByteStore<MOST_KEY_BYTES>) -> KeyBytes
+        ensures { result ≡ store }
+    {
+        KeyBytes { store }
     }
 
     /// The bytes.
     pub fn as_slice(&self) -> &[u8]
         ensures value { result.now ≡ self.now }
         ensures bound { length self.now ≤ 63 }
+        ensures of_bytes { AreBytes self.now }
     {
-        &self.bytes[..self.len as usize]
+        self.store.as_slice()
     }
 }
 

@@ -10,7 +10,7 @@ use std::marker::Model;
 use thiserror::Error;
 
 /// The left end of a range was greater than its right one.
-#[derive(Debug, Drop, Error)]
+#[derive(Clone, Copy, Debug, PartialEq, Eq, Error)]
 #[error("the left end is greater than the right one")]
 pub struct Backwards;
 

@@ -4,3 +4,7 @@ pub mod PairsLaws
 pub mod SpanLaws
 pub mod LawfulLaws
 pub mod YardLaws
+pub mod NumbersLaws
+pub mod SeqLaws
+pub mod RefusalLaws
+pub mod JoinLaws

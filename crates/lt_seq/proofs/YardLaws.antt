@@ -9,7 +9,7 @@ use Rattle.lt_seq.specs.Table.{Setting, used}
 use Rattle.lt_seq.specs.History.{IsFront, after}
 use Rattle.lt_seq.proofs.HistoryLaws.{front_itself}
 use Rattle.lt_seq.specs.Yard.{PassView, HasAll, Watches, Happens, FaultAt, Answers, AskAnswers, Caused, AskCaused, OneMore, IsSound, place_after, event_after}
-use Rattle.lt_seq.specs.Alone.{Stays, AloneCaused, AloneAskCaused, AloneAnswers, AloneAskAnswers}
+use Rattle.lt_seq.specs.Alone.{Stays, AloneCaused, AloneAskCaused, AloneAnswers, AloneAskAnswers, IsDone}
 
 -- an event at once is an event
 pub happens_at_once : (setting : Setting) (old new : PassView) (txn : ℕ) (deed : Deed) (receipt : Receipt) → OneMore setting old new txn deed receipt → IsSound setting new → place_after setting old.front < 2 ^ 39 → Happens setting old new txn deed old.front old.front receipt
@@ -120,3 +120,18 @@ alone_ask_answers setting old new txn deed (Ok receipt) (seen, before, happens, 
 )
 alone_ask_answers setting old new txn deed (Err fault) (seen, at) all =
     (stays_alone setting old new at.watches all, ask_caused_alone setting old new fault all (subst (AskCaused setting old new fault) (at.alone_seen all) at.cause))
+
+-- where there is a place, and for an ask a row below the limit, the call makes its event unless memory is short
+pub alone_done : (setting : Setting) (old new : PassView) (txn : ℕ) (deed : Deed) (result : Result Receipt Fault) → AloneAnswers setting old new txn deed result → place_after setting old.front < 2 ^ 39 → IsDone result
+alone_done setting old new txn deed (Ok receipt) answer room = tt
+alone_done setting old new txn deed (Err OutOfMemory) answer room = tt
+alone_done setting old new txn deed (Err (Busy row holder)) answer room = answer.1
+alone_done setting old new txn deed (Err (HistoryFull place)) (stays, full) room = absurd (omega (arith, full.place_is, full.full, room))
+alone_done setting old new txn deed (Err (OutOfLocks place used_rows)) answer room = answer.1
+
+pub alone_ask_done : (setting : Setting) (old new : PassView) (txn : ℕ) (deed : Deed) (result : Result Receipt Fault) → AloneAskAnswers setting old new txn deed result → place_after setting old.front < 2 ^ 39 → used (after setting old.front) < setting.plan.limit → IsDone result
+alone_ask_done setting old new txn deed (Ok receipt) answer room rows = tt
+alone_ask_done setting old new txn deed (Err OutOfMemory) answer room rows = tt
+alone_ask_done setting old new txn deed (Err (Busy row holder)) answer room rows = answer.1
+alone_ask_done setting old new txn deed (Err (HistoryFull place)) (stays, full) room rows = absurd (omega (arith, full.place_is, full.full, room))
+alone_ask_done setting old new txn deed (Err (OutOfLocks place used_rows)) (stays, full) room rows = absurd (omega (arith, full.used_is, full.full, rows))

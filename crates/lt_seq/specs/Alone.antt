@@ -45,3 +45,11 @@ AloneAskAnswers setting old new txn deed (Ok receipt) =
     OneMore setting old new txn deed receipt × IsSound setting new
     × (place_after setting old.front < 2 ^ 39) × (used (after setting old.front) < setting.plan.limit)
 AloneAskAnswers setting old new txn deed (Err fault) = Stays setting old new × AloneAskCaused setting old.front fault
+
+-- the call made its event, or memory was short
+abbrev pub IsDone : Result Receipt Fault → Type 0
+IsDone (Ok receipt) = Unit {0}
+IsDone (Err OutOfMemory) = Unit {0}
+IsDone (Err (Busy row holder)) = ⊥
+IsDone (Err (HistoryFull place)) = ⊥
+IsDone (Err (OutOfLocks place used_rows)) = ⊥

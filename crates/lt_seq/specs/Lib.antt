@@ -8,3 +8,4 @@ pub mod Alone
 pub mod Passes
 pub mod Questions
 pub mod Joins
+pub mod SeqPass

@@ -7,11 +7,9 @@ ghost use Rattle.lt_trace.specs.Grammar.{Front, IsFront, IsFaultless, header_for
 /// Worked refusals come out so.
 pub fn fault_rows()
     ensures { FaultRows }
-{
-}
+{}
 
 /// A front grows by one line.
 pub fn front_grows()
     ensures { (front : Front) (line : Line) → length front.header ≡ length header_forms → IsFront front → IsFaultless front.header front.lines line → IsFront (record front { lines = front.lines ++ line ∷ [] }) }
-{
-}
+{}
