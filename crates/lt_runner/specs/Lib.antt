@@ -6,3 +6,5 @@ pub mod Serial
 pub mod Rows
 pub mod Run
 pub mod Played
+pub mod AtOnce
+pub mod Transcript

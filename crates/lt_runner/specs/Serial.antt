@@ -64,16 +64,16 @@ wishes_in turns = filter_map (λ turn. if is_waiting turn then next_wish turn.tx
 abbrev pub ask_move : Setting → List Turn → Turn → Bool → List Event → List Receipt → Receipt → Move
 ask_move setting turns turn locks events joins ask =
     if locks && is_held (reply_in ask.event.deed)
-      then (let wishes = wishes_in (with_turn (record turn { waits = true }) turns) in
-        waits joins ask wishes (searched setting turn.txn wishes wishes (events ++ ask.event ∷ []) [] (wishes_of (named_by (reply_in ask.event.deed)) wishes)))
-      else asks joins ask
+    then (let wishes = wishes_in (with_turn (record turn { waits = true }) turns) in
+    waits joins ask wishes (searched setting turn.txn wishes wishes (events ++ ask.event ∷ []) [] (wishes_of (named_by (reply_in ask.event.deed)) wishes)))
+    else asks joins ask
 
 -- an attempt asks where there is room, and is out of locks otherwise: no table joins its trees yet
 abbrev pub attempt : Setting → List Turn → Turn → Bool → Deed → List Event → Move
 attempt setting turns turn locks deed events =
     if nat_lt (used (after setting events)) (bar_of setting turn)
-      then ask_move setting turns turn locks events [] (receipt_after setting events 0 turn.txn deed)
-      else stops [] (place_after setting events) (used (after setting events))
+    then ask_move setting turns turn locks events [] (receipt_after setting events 0 turn.txn deed)
+    else stops [] (place_after setting events) (used (after setting events))
 
 abbrev pub line_move : Setting → Game → Turn → LineDeed → Move
 line_move setting game turn (Try tree range) = attempt setting game.turns turn false (Ask tree range Granted) game.events
@@ -92,7 +92,7 @@ abbrev pub gives_back : Setting → ℕ → List Release → Game → Game
 gives_back setting txn [] game = game
 gives_back setting txn (r ∷ rs) game =
     gives_back setting txn rs
-      (does setting (turn_of setting txn game.turns) (frees (receipt_after setting game.events 0 txn (Free r.tree r.range r.first 0))) game)
+    (does setting (turn_of setting txn game.turns) (frees (receipt_after setting game.events 0 txn (Free r.tree r.range r.first 0))) game)
 
 -- a transaction that has ended is released at once
 abbrev pub settles : Setting → Turn → Game → Game
@@ -121,8 +121,8 @@ plays_on setting txn (line ∷ lines) game =
 abbrev pub retried : Setting → Game → ℕ → Game
 retried setting game txn =
     if is_waiting (turn_of setting txn game.turns)
-      then (let next = plays_next setting txn game in plays_on setting txn (turn_of setting txn next.turns).lines next)
-      else game
+    then (let next = plays_next setting txn game in plays_on setting txn (turn_of setting txn next.turns).lines next)
+    else game
 
 abbrev pub swept : Setting → List ℕ → Game → Game
 swept setting txns game = fold (retried setting) (record game { released = false }) txns

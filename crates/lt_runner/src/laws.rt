@@ -8,11 +8,9 @@ ghost use Rattle.lt_runner.specs.Rows.{Rows};
 /// The plain scheduler writes the worked examples' texts.
 pub fn worked_rows()
     ensures { Rows }
-{
-}
+{}
 
 /// A law, to have the definitions checked.
 pub fn run_law()
     ensures { (crew : Bool) (setting : Setting) (lines : List Line) (bytes : List ℕ) → IsRunText crew setting lines bytes → IsRunText crew setting lines bytes }
-{
-}
+{}

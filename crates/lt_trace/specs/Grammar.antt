@@ -1,11 +1,12 @@
 -- The grammar of traces: how each one is spelled, and which line of other bytes is the first faulty one.
 use Rattle.std.specs.Prelude.{◌≡◌, ◌≢◌, ℕ, ◌+◌, ◌^◌, ◌<◌, ◌≤◌, List, [], ◌∷◌, ◌++◌, map, length, Option, Some, None, Bool, true, false, ◌&&◌, ◌||◌, ◌==◌, not, nat_lt, nat_le, if◌then◌else◌, codes, decimal}
-use Rattle.std.specs.List.{AllByRecursion, flat_map, list_any}
+use Rattle.std.specs.List.{flat_map, list_any}
+use Rattle.std.specs.Option.{option_or}
 use Rattle.lt_ranges.specs.declared.key.Key.{Key}
 use Rattle.lt_ranges.specs.declared.key.Key.TheVariants.{Below, Bytes, After, Above}
 use Rattle.lt_ranges.specs.Key.{key_le}
 use Rattle.lt_ranges.specs.Interval.{Interval}
-use Rattle.lt_ranges.specs.KeyText.{spaced, range_text, IsOfBytes, is_long}
+use Rattle.lt_ranges.specs.KeyText.{IsOfBytes, is_long, spaced, range_text}
 use Rattle.lt_ranges.specs.Numbers.{ascending}
 use Rattle.lt_trace.specs.declared.line.Line.{Line}
 use Rattle.lt_trace.specs.declared.line.LineDeed.{LineDeed}
@@ -63,13 +64,18 @@ deed_text Big = codes " big"
 abbrev pub line_text : Line → List ℕ
 line_text line = decimal line.txn ++ deed_text line.deed
 
--- a key that the version has, of bytes of any number: prefix endpoints came with the second
-abbrev pub IsKeyForm : ℕ → Key → Type 0
-IsKeyForm version Below = Unit {0}
-IsKeyForm version (Bytes bytes) = IsOfBytes (Bytes bytes)
-IsKeyForm version (After bytes) = (2 ≤ version) × IsOfBytes (After bytes)
-IsKeyForm version Above = Unit {0}
+-- the version has such keys: prefix endpoints come with version 2
+abbrev pub HasKind : ℕ → Key → Type 0
+HasKind version Below = Unit {0}
+HasKind version (Bytes bytes) = Unit {0}
+HasKind version (After bytes) = 2 ≤ version
+HasKind version Above = Unit {0}
 
+-- a key that the version has, of any length
+abbrev pub IsKeyForm : ℕ → Key → Type 0
+IsKeyForm version key = HasKind version key × IsOfBytes key
+
+-- a range of keys that the version has
 abbrev pub IsRangeForm : ℕ → Interval → Type 0
 IsRangeForm version range = IsKeyForm version range.left × IsKeyForm version range.right
 
@@ -159,16 +165,25 @@ fault_of_text number text =
     else if not text.ended then Some (fault.NoFinalNewline number)
     else None
 
--- and those that go by what a body line says, behind these lines
+-- those that go by what a body line asks for
+abbrev pub fault_of_deed : ℕ → ℕ → LineDeed → Option TraceFault
+fault_of_deed number trees deed =
+    if is_outside trees deed then Some (fault.TreeOutOfRange number)
+    else if has_long_key deed then Some (fault.KeyTooLong number)
+    else if is_backwards deed then Some (fault.Backwards number)
+    else None
+
+-- and those that go by whose line it is, behind these lines
+abbrev pub fault_of_turn : ℕ → List Line → ℕ → Option TraceFault
+fault_of_turn number before txn =
+    if has_ended txn before then Some (fault.AfterEnd number)
+    else if not (has_begun txn before) && nat_le 1024 (length (txns_of before)) then Some (fault.TooManyTxns number)
+    else None
+
+-- the rows of a body line, behind these lines
 abbrev pub fault_of_form : ℕ → ℕ → List Line → Option Line → Option TraceFault
 fault_of_form number trees before None = Some (fault.BadLine number)
-fault_of_form number trees before (Some line) =
-    if is_outside trees line.deed then Some (fault.TreeOutOfRange number)
-    else if has_long_key line.deed then Some (fault.KeyTooLong number)
-    else if is_backwards line.deed then Some (fault.Backwards number)
-    else if has_ended line.txn before then Some (fault.AfterEnd number)
-    else if not (has_begun line.txn before) && nat_le 1024 (length (txns_of before)) then Some (fault.TooManyTxns number)
-    else None
+fault_of_form number trees before (Some line) = option_or (fault_of_deed number trees line.deed) (fault_of_turn number before line.txn)
 
 -- Traces, and what lines before a faulty one may be.
 
@@ -237,19 +252,26 @@ abbrev pub IsFirst : Option TraceFault → (TraceFault → Type 0) → TraceFaul
 IsFirst (Some found) Else f = f ≡ found
 IsFirst None Else f = Else f
 
--- the line that begins the rest, behind this front, has the fault; a header line has it too where nothing is left
-abbrev pub HasFault : Option HeaderForm → Front → List ℕ → TraceFault → Type 0
-HasFault (Some form) front [] f = f ≡ fault.BadHeader (1 + length front.header)
-HasFault (Some form) front (b ∷ bs) f =
+-- what is wrong with the header line that these bytes begin with; where nothing is left, the line is missing
+abbrev pub IsHeaderFault : HeaderForm → ℕ → List ℕ → TraceFault → Type 0
+IsHeaderFault form number [] f = f ≡ fault.BadHeader number
+IsHeaderFault form number (b ∷ bs) f =
     let text = first_line (b ∷ bs) in
-    let number = 1 + length front.header in
     IsFirst (fault_of_text number text) (λ g. IsNoHeader form text.bytes × (g ≡ fault.BadHeader number)) f
-HasFault None front [] f = ⊥
-HasFault None front (b ∷ bs) f =
+
+-- what is wrong with the body line that these bytes begin with, behind a header and these lines
+abbrev pub IsBodyFault : List ℕ → List Line → List ℕ → TraceFault → Type 0
+IsBodyFault header before [] f = ⊥
+IsBodyFault header before (b ∷ bs) f =
     let text = first_line (b ∷ bs) in
-    let number = 5 + length front.lines in
+    let number = 5 + length before in
     IsFirst (fault_of_text number text)
-      (λ g. (form : Option Line) × Forms (version_in front.header) text.bytes form × (fault_of_form number (trees_in front.header) front.lines form ≡ Some g)) f
+    (λ g. (form : Option Line) × Forms (version_in header) text.bytes form × (fault_of_form number (trees_in header) before form ≡ Some g)) f
+
+-- the line that the rest begins with, behind this front, has the fault
+abbrev pub HasFault : Option HeaderForm → Front → List ℕ → TraceFault → Type 0
+HasFault (Some form) front rest f = IsHeaderFault form (1 + length front.header) rest f
+HasFault None front rest f = IsBodyFault front.header front.lines rest f
 
 -- the first faulty line has this fault first: the lines before it have none
 abbrev pub IsFirstFault : List ℕ → TraceFault → Type 0
@@ -257,7 +279,11 @@ IsFirstFault bytes f =
     (front : Front) × (rest : List ℕ) × IsFront front × (bytes ≡ front_text front ++ rest)
     × HasFault (next_form header_forms front.header) front rest f
 
+-- memory ran out, or the fault is one of these
+abbrev pub OrNoMemory : (TraceFault → Type 0) → TraceFault → Type 0
+OrNoMemory Is fault.OutOfMemory = Unit {0}
+OrNoMemory Is f = Is f
+
 -- a refusal names the first fault, or memory ran out
 abbrev pub Refuses : List ℕ → TraceFault → Type 0
-Refuses bytes fault.OutOfMemory = Unit {0}
-Refuses bytes f = IsFirstFault bytes f
+Refuses bytes f = OrNoMemory (IsFirstFault bytes) f

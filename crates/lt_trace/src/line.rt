@@ -1,4 +1,6 @@
 //! The lines of a trace.
+ghost use Rattle.std.specs.Prelude.{◌≡◌};
+ghost use Rattle.lt_trace.specs.Grammar.{is_last};
 
 use lt_ranges::KeyRange;
 
@@ -17,6 +19,15 @@ pub enum LineDeed {
     Escalate { tree: u32 },
     /// From here on the transaction is a big one.
     Big,
+}
+
+impl LineDeed {
+    /// Whether a transaction has no line behind this one.
+    pub fn is_last(&self) -> bool
+        ensures { result ≡ is_last self.now }
+    {
+        matches!(self, LineDeed::End | LineDeed::Abort)
+    }
 }
 
 /// A line of a transaction.

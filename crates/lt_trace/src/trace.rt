@@ -1,7 +1,9 @@
 //! Traces.
 ghost use Rattle.std.specs.Prelude.{◌≡◌};
-ghost use Rattle.lt_trace.specs.Grammar.{IsTrace};
+ghost use Rattle.lt_trace.specs.Grammar.{IsTrace, IsFront, whole};
+ghost use Rattle.lt_trace.specs.Reading.{front_of};
 
+use crate::header::Header;
 use crate::line::Line;
 use std::marker::Model;
 
@@ -27,6 +29,20 @@ impl Model for Trace {
 }
 
 impl Trace {
+    /// The trace of a header and of lines without a fault behind it.
+    pub(crate) fn new(header: &Header, lines: Vec<Line>) -> Trace
+        requires { IsFront (front_of header.now lines.items) }
+        ensures { whole result ≡ front_of header.now lines.items }
+    {
+        Trace {
+            version: header.version,
+            trees: header.trees,
+            limit: header.limit,
+            buffer: header.buffer,
+            lines,
+        }
+    }
+
     /// The version of its text, 1 or 2.
     pub fn version(&self) -> u32
         ensures { result ≡ self.now.version }

@@ -1,4 +1,4 @@
-use Rattle.std.proofs.Common.{◌≡◌, ◌<◌, ◌≤◌, [], length, rules, arith}
+use Rattle.std.proofs.Common.{◌≤◌, length, rules}
 use Rattle.lt_ranges.proofs.ReadSoFar.{kept_few, unread, one_past, one_more, read_all, read_past}
 use Rattle.lt_ranges.proofs.reading.read_spelled.Goals as goal
 
