@@ -1,0 +1,9 @@
+pub mod FreeLaws
+pub mod TurnsLaws
+pub mod PlaceLaws
+pub mod QuietLaws
+pub mod LineLaws
+pub mod ScheduleLaws
+pub mod OpeningLaws
+pub mod TraceLaws
+pub mod ClosingLaws
