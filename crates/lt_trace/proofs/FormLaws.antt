@@ -1,5 +1,5 @@
 -- A text has one form of a line at the most.
-use Rattle.std.proofs.Common.{◌≡◌, ℕ, ◌+◌, ◌^◌, ◌<◌, ◌≤◌, List, [], ◌∷◌, ◌++◌, get_or, codes, decimal, sym, ap, subst, ◌∙◌, refl, lit<, arith, append_assoc}
+use Rattle.std.proofs.Common.{◌≡◌, ℕ, ◌^◌, ◌<◌, List, [], ◌∷◌, ◌++◌, get_or, codes, decimal, sym, ap, subst, ◌∙◌, refl, lit<, arith, append_assoc}
 use Rattle.std.proofs.lemmas.Fmt.{decimal_injective}
 use Rattle.lt_ranges.specs.declared.key.Key.{Key}
 use Rattle.lt_ranges.specs.Interval.{Interval}

@@ -1,5 +1,5 @@
 -- Where the text of a key ends, and which keys have a star.
-use Rattle.std.proofs.Common.{◌≡◌, ◌≢◌, ℕ, ◌+◌, ◌^◌, ◌<◌, ◌≤◌, ◌⊎◌, inl, inr, List, [], ◌∷◌, ◌++◌, Bool, true, false, Some, cond, length, get_or, lit<, sym, ap, subst, ◌∙◌, refl, arith, append_assoc, length-append, MatchBool}
+use Rattle.std.proofs.Common.{◌≡◌, ◌≢◌, ℕ, ◌+◌, ◌<◌, ◌≤◌, ◌⊎◌, inl, inr, List, [], ◌∷◌, ◌++◌, length, get_or, lit<, sym, ap, subst, ◌∙◌, refl, arith, append_assoc, length-append}
 use Rattle.lt_ranges.specs.declared.key.Key.{Key}
 use Rattle.lt_ranges.specs.declared.key.Key.TheVariants.{Below, Bytes, After, Above}
 use Rattle.lt_ranges.specs.KeyText.{byte_text, spelled, key_text}

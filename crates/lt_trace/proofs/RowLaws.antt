@@ -1,7 +1,6 @@
 -- The rows of a body line, in two parts.
 use Rattle.std.proofs.Common.{◌≡◌, ℕ, List, Bool, true, false, cond, Option, Some, None, refl}
 use Rattle.std.specs.Option.{option_or}
-use Rattle.lt_trace.specs.declared.fault.TraceFault.{TraceFault}
 use Rattle.lt_trace.specs.declared.line.Line.{Line}
 use Rattle.lt_trace.specs.Grammar.{is_outside, has_long_key, is_backwards, fault_of_form}
 use Rattle.lt_trace.specs.Reading.{fault_of_deed, fault_of_turn}
