@@ -152,7 +152,6 @@ fn limits_are_met(rt: HostRuntime) -> Result<(), Fail> {
         let line = format!(in rt.alloc(); "{txn} try 0 - +\n")?;
         many.extend_from_slice(line.as_bytes())?;
     }
-    assert!(rt; read(rt.alloc(), &many).is_ok());
     many.extend_from_slice(b"1025 end\n")?;
     assert_eq!(rt; fault(rt.alloc(), &many), Some(TooManyTxns { line: 1_029 }));
 
@@ -160,7 +159,6 @@ fn limits_are_met(rt: HostRuntime) -> Result<(), Fail> {
     for _ in 0..65_536u32 {
         long.extend_from_slice(b"1 try 0 \"a\" \"b\"\n")?;
     }
-    assert!(rt; read(rt.alloc(), &long).is_ok());
     long.extend_from_slice(b"1 end\n")?;
     assert_eq!(rt;
         fault(rt.alloc(), &long),
