@@ -8,6 +8,7 @@ use Rattle.lt_trace.specs.Trace.{TraceView}
 use Rattle.lt_trace.specs.Grammar.{Spells, IsFirstFault, Refuses as IsRefused}
 use Rattle.lt_trace.specs.declared.fault.TraceFault.{TraceFault}
 use Rattle.lt_trace.specs.declared.fault.TraceFault.TheVariants as fault
+use Rattle.lt_trace.proofs.FaultLaws.{spelled_not_refused}
 use Rattle.lt_program.specs.Words.{IsCommand}
 use Rattle.lt_program.specs.Answers.{IsAnswer, status_of, bytes_of}
 use Rattle.lt_program.specs.Statuses.{ReadsAll, ReadsEnough, Works, Refuses, Breaks, IsComplete, most_bytes}
@@ -15,10 +16,6 @@ use Rattle.lt_program.specs.declared.answer.Answer.{Answer}
 use Rattle.lt_program.specs.declared.answer.Answer.TheVariants.{Text, Refusal}
 use Rattle.lt_program.specs.declared.words.Command.{Command}
 use Rattle.lt_program.proofs.LengthLaws.{length-front_text}
-
--- nothing is both a trace and refused
-pub spelled_not_refused : (bytes : List ℕ) (trace : TraceView) (f : TraceFault) → Spells bytes trace → IsFirstFault bytes f → ⊥
-spelled_not_refused bytes trace f spelled first = ?
 
 -- a fault that is no want of memory is the first one
 pub refused_first : (bytes : List ℕ) (f : TraceFault) → f ≢ fault.OutOfMemory → IsRefused bytes f → IsFirstFault bytes f
