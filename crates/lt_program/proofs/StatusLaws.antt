@@ -48,14 +48,14 @@ module _ (words : List (List ℕ)) (left rest : Option (List ℕ)) (status : ℕ
   completes (Text text) is (inl s) five = record {
     trace = λ other all t said told spelled. inl s;
     no_trace = λ other all said told none.
-      absurd (none is.0 (let P : List ℕ → Type 0 = λ b. Spells b is.0 in
+        absurd (none is.0 (let P : List ℕ → Type 0 = λ b. Spells b is.0 in
         subst P (take_short most_bytes all bytes (read.bytes_read all told) (length-front_text bytes is.0 is.1)) is.1));
   }
   completes (Refusal line) is (inl s) five = record {
     trace = λ other all t said told spelled.
-      let short = length-front_text all t spelled in
-      let same : bytes ≡ all = read.bytes_read all told ∙ take_all most_bytes all (omega arith) in
-      absurd (spelled_not_refused bytes t is.0 (let P : List ℕ → Type 0 = λ b. Spells b t in subst P (sym same) spelled) is.1);
+        let short = length-front_text all t spelled in
+        let same : bytes ≡ all = read.bytes_read all told ∙ take_all most_bytes all (omega arith) in
+        absurd (spelled_not_refused bytes t is.0 (let P : List ℕ → Type 0 = λ b. Spells b t in subst P (sym same) spelled) is.1);
     no_trace = λ other all said told none. inl s;
   }
   completes a is (inr s) five = absurd (five s)

@@ -5,6 +5,7 @@ use std::alloc::{AllocError, Global};
 use std::test::Fail;
 
 const HEADER: &[u8] = b"rangelock 1\ntrees 2\nlimit 64\nbuffer 0\n";
+
 const LATER_HEADER: &[u8] = b"rangelock 2\ntrees 2\nlimit 64\nbuffer 0\n";
 
 fn behind(alloc: Global, header: &[u8], body: &[u8]) -> Result<Vec<u8>, AllocError> {
@@ -30,17 +31,29 @@ fn faults_of_body_lines(rt: HostRuntime) -> Result<(), Fail> {
         (b"1 end\r\n", TraceFault::BadLine { line: 5 }),
         (b"1 try 1234567890 - +\n", TraceFault::BadLine { line: 5 }),
         (b"1 try 0 - + \n", TraceFault::BadLine { line: 5 }),
-        (b"1 try 0 \"a\" \"\\x62\"\n", TraceFault::BadLine { line: 5 }),
+        (
+            b"1 try 0 \"a\" \"\\x62\"\n",
+            TraceFault::BadLine { line: 5 },
+        ),
         (b"1 try 0 \"b\" \"b\"*\n", TraceFault::BadLine { line: 5 }),
         (b"1 lock 0 - +\n", TraceFault::BadLine { line: 5 }),
         (b"1 abort\n", TraceFault::BadLine { line: 5 }),
         (b"1 escalate 0\n", TraceFault::BadLine { line: 5 }),
-        (b"1 try 2 \"b\" \"a\"\n", TraceFault::TreeOutOfRange { line: 5 }),
+        (
+            b"1 try 2 \"b\" \"a\"\n",
+            TraceFault::TreeOutOfRange { line: 5 },
+        ),
         (b"1 try 0 \"b\" \"a\"\n", TraceFault::Backwards { line: 5 }),
         (b"1 try 0 + -\n", TraceFault::Backwards { line: 5 }),
         (b"1 end\n1 end\n", TraceFault::AfterEnd { line: 6 }),
-        (b"1 end\n2 end\n1 try 1 \"b\" \"a\"\n", TraceFault::Backwards { line: 7 }),
-        (b"1 end\n2 steal\n3 try 9 - +\n", TraceFault::BadLine { line: 6 }),
+        (
+            b"1 end\n2 end\n1 try 1 \"b\" \"a\"\n",
+            TraceFault::Backwards { line: 7 },
+        ),
+        (
+            b"1 end\n2 steal\n3 try 9 - +\n",
+            TraceFault::BadLine { line: 6 },
+        ),
         (b"1 end", TraceFault::NoFinalNewline { line: 5 }),
         (b"1 end\n1 steal", TraceFault::NoFinalNewline { line: 6 }),
     ];
@@ -61,11 +74,26 @@ fn faults_of_headers(rt: HostRuntime) {
         (b"rangelock 1", TraceFault::NoFinalNewline { line: 1 }),
         (b"rangelock 1\n", TraceFault::BadHeader { line: 2 }),
         (b"rangelock 1\ntrees 0\n", TraceFault::BadHeader { line: 2 }),
-        (b"rangelock 1\ntrees 17\n", TraceFault::BadHeader { line: 2 }),
-        (b"rangelock 1\ntrees 1\nlimit 0\n", TraceFault::BadHeader { line: 3 }),
-        (b"rangelock 1\ntrees 1\nlimit 65537\n", TraceFault::BadHeader { line: 3 }),
-        (b"rangelock 1\ntrees 1\nlimit 64\nbuffer 1\n", TraceFault::BadHeader { line: 4 }),
-        (b"rangelock 1\ntrees 1\nlimit 64\n1 end\n", TraceFault::BadHeader { line: 4 }),
+        (
+            b"rangelock 1\ntrees 17\n",
+            TraceFault::BadHeader { line: 2 },
+        ),
+        (
+            b"rangelock 1\ntrees 1\nlimit 0\n",
+            TraceFault::BadHeader { line: 3 },
+        ),
+        (
+            b"rangelock 1\ntrees 1\nlimit 65537\n",
+            TraceFault::BadHeader { line: 3 },
+        ),
+        (
+            b"rangelock 1\ntrees 1\nlimit 64\nbuffer 1\n",
+            TraceFault::BadHeader { line: 4 },
+        ),
+        (
+            b"rangelock 1\ntrees 1\nlimit 64\n1 end\n",
+            TraceFault::BadHeader { line: 4 },
+        ),
     ];
     for (text, expected) in rows {
         assert_eq!(rt; fault(rt.alloc(), text), Some(expected), "{text:?}");
@@ -76,20 +104,36 @@ fn faults_of_headers(rt: HostRuntime) {
 #[test]
 fn faults_of_keys_in_both_versions(rt: HostRuntime) -> Result<(), Fail> {
     let later = behind(rt.alloc(), LATER_HEADER, b"1 try 0 \"b\"* \"b\"\n")?;
-    assert_eq!(rt; fault(rt.alloc(), &later), Some(TraceFault::Backwards { line: 5 }));
+    assert_eq!(rt;
+        fault(rt.alloc(), &later),
+        Some(TraceFault::Backwards { line: 5 })
+    );
     let big = behind(rt.alloc(), LATER_HEADER, b"1 big\n")?;
-    assert_eq!(rt; fault(rt.alloc(), &big), Some(TraceFault::BadLine { line: 5 }));
+    assert_eq!(rt;
+        fault(rt.alloc(), &big),
+        Some(TraceFault::BadLine { line: 5 })
+    );
     let long = b"1 try 0 \"aaaaaaaaaaaaaaaaaaaaaaaaaaaaaaaaaaaaaaaaaaaaaaaaaaaaaaaaaaaaaaaa\"* -\n";
     let early = behind(rt.alloc(), HEADER, long)?;
-    assert_eq!(rt; fault(rt.alloc(), &early), Some(TraceFault::BadLine { line: 5 }));
+    assert_eq!(rt;
+        fault(rt.alloc(), &early),
+        Some(TraceFault::BadLine { line: 5 })
+    );
     let later = behind(rt.alloc(), LATER_HEADER, long)?;
-    assert_eq!(rt; fault(rt.alloc(), &later), Some(TraceFault::KeyTooLong { line: 5 }));
+    assert_eq!(rt;
+        fault(rt.alloc(), &later),
+        Some(TraceFault::KeyTooLong { line: 5 })
+    );
     Ok(())
 }
 
 #[test]
 fn what_is_read_is_written_again(rt: HostRuntime) -> Result<(), Fail> {
-    let mut text = behind(rt.alloc(), LATER_HEADER, b"7 try 1 - +\n7 try 0 \"a b\" \"\"*\n")?;
+    let mut text = behind(
+        rt.alloc(),
+        LATER_HEADER,
+        b"7 try 1 - +\n7 try 0 \"a b\" \"\"*\n",
+    )?;
     for byte in 0..=255u8 {
         let key = Key::new(&[byte; 63]).or(Err("a key of 63 bytes"))?.text();
         text.extend_from_slice(b"999999999 try 1 ")?;
@@ -101,7 +145,15 @@ fn what_is_read_is_written_again(rt: HostRuntime) -> Result<(), Fail> {
     text.extend_from_slice(b"7 end\n")?;
     let trace = read(rt.alloc(), &text)?;
     assert_eq!(rt; trace.lines().len(), 259);
-    assert_eq!(rt; (trace.version(), trace.trees(), trace.limit(), trace.buffer()), (2, 2, 64, 0));
+    assert_eq!(rt;
+        (
+            trace.version(),
+            trace.trees(),
+            trace.limit(),
+            trace.buffer()
+        ),
+        (2, 2, 64, 0)
+    );
     let written = write(rt.alloc(), &trace)?;
     assert!(rt; written.as_slice() == text.as_slice());
     Ok(())
@@ -110,9 +162,15 @@ fn what_is_read_is_written_again(rt: HostRuntime) -> Result<(), Fail> {
 #[test]
 fn limits_are_met(rt: HostRuntime) -> Result<(), Fail> {
     let mut text = behind(rt.alloc(), HEADER, &[b'x'; 600])?;
-    assert_eq!(rt; fault(rt.alloc(), &text), Some(TraceFault::NoFinalNewline { line: 5 }));
+    assert_eq!(rt;
+        fault(rt.alloc(), &text),
+        Some(TraceFault::NoFinalNewline { line: 5 })
+    );
     text.push(b'x')?;
-    assert_eq!(rt; fault(rt.alloc(), &text), Some(TraceFault::LineTooLong { line: 5 }));
+    assert_eq!(rt;
+        fault(rt.alloc(), &text),
+        Some(TraceFault::LineTooLong { line: 5 })
+    );
 
     let mut many = behind(rt.alloc(), HEADER, b"")?;
     for txn in 1..=1_024u64 {
@@ -121,7 +179,10 @@ fn limits_are_met(rt: HostRuntime) -> Result<(), Fail> {
     }
     assert!(rt; read(rt.alloc(), &many).is_ok());
     many.extend_from_slice(b"1025 end\n")?;
-    assert_eq!(rt; fault(rt.alloc(), &many), Some(TraceFault::TooManyTxns { line: 1_029 }));
+    assert_eq!(rt;
+        fault(rt.alloc(), &many),
+        Some(TraceFault::TooManyTxns { line: 1_029 })
+    );
 
     let mut long = behind(rt.alloc(), HEADER, b"")?;
     for _ in 0..65_536u32 {
@@ -129,7 +190,10 @@ fn limits_are_met(rt: HostRuntime) -> Result<(), Fail> {
     }
     assert!(rt; read(rt.alloc(), &long).is_ok());
     long.extend_from_slice(b"1 end\n")?;
-    assert_eq!(rt; fault(rt.alloc(), &long), Some(TraceFault::TooManyLines { line: 65_541 }));
+    assert_eq!(rt;
+        fault(rt.alloc(), &long),
+        Some(TraceFault::TooManyLines { line: 65_541 })
+    );
     Ok(())
 }
 
