@@ -8,6 +8,7 @@ use Rattle.lt_trace.specs.Trace.{TraceView}
 use Rattle.lt_trace.specs.Grammar.{Spells, IsFirstFault, Refuses as IsRefused}
 use Rattle.lt_trace.specs.declared.fault.TraceFault.{TraceFault}
 use Rattle.lt_trace.specs.declared.fault.TraceFault.TheVariants as fault
+use Rattle.lt_trace.proofs.FaultLaws.{spelled_not_refused}
 use Rattle.lt_program.specs.Words.{IsCommand}
 use Rattle.lt_program.specs.Answers.{IsAnswer, status_of, bytes_of}
 use Rattle.lt_program.specs.Statuses.{ReadsAll, ReadsEnough, Works, Refuses, Breaks, IsComplete, most_bytes}
@@ -15,10 +16,6 @@ use Rattle.lt_program.specs.declared.answer.Answer.{Answer}
 use Rattle.lt_program.specs.declared.answer.Answer.TheVariants.{Text, Refusal}
 use Rattle.lt_program.specs.declared.words.Command.{Command}
 use Rattle.lt_program.proofs.LengthLaws.{length-front_text}
-
--- nothing is both a trace and refused
-pub spelled_not_refused : (bytes : List ℕ) (trace : TraceView) (f : TraceFault) → Spells bytes trace → IsFirstFault bytes f → ⊥
-spelled_not_refused bytes trace f spelled first = ?
 
 -- a fault that is no want of memory is the first one
 pub refused_first : (bytes : List ℕ) (f : TraceFault) → f ≢ fault.OutOfMemory → IsRefused bytes f → IsFirstFault bytes f
@@ -51,14 +48,14 @@ module _ (words : List (List ℕ)) (left rest : Option (List ℕ)) (status : ℕ
   completes (Text text) is (inl s) five = record {
     trace = λ other all t said told spelled. inl s;
     no_trace = λ other all said told none.
-      absurd (none is.0 (let P : List ℕ → Type 0 = λ b. Spells b is.0 in
+        absurd (none is.0 (let P : List ℕ → Type 0 = λ b. Spells b is.0 in
         subst P (take_short most_bytes all bytes (read.bytes_read all told) (length-front_text bytes is.0 is.1)) is.1));
   }
   completes (Refusal line) is (inl s) five = record {
     trace = λ other all t said told spelled.
-      let short = length-front_text all t spelled in
-      let same : bytes ≡ all = read.bytes_read all told ∙ take_all most_bytes all (omega arith) in
-      absurd (spelled_not_refused bytes t is.0 (let P : List ℕ → Type 0 = λ b. Spells b t in subst P (sym same) spelled) is.1);
+        let short = length-front_text all t spelled in
+        let same : bytes ≡ all = read.bytes_read all told ∙ take_all most_bytes all (omega arith) in
+        absurd (spelled_not_refused bytes t is.0 (let P : List ℕ → Type 0 = λ b. Spells b t in subst P (sym same) spelled) is.1);
     no_trace = λ other all said told none. inl s;
   }
   completes a is (inr s) five = absurd (five s)

@@ -23,12 +23,7 @@ const READ_LIMIT: usize = 39_389_541;
 ///
 /// The words come first, then all is read, then it is read as a trace, then the trace is played, and at last all is
 /// written. Nothing is written before all was read and played.
-pub fn run<S: Source, K: Sink>(
-    alloc: Global,
-    words: &[String],
-    source: &mut S,
-    sink: &mut K,
-) -> u8
+pub fn run<S: Source, K: Sink>(alloc: Global, words: &[String], source: &mut S, sink: &mut K) -> u8
     ensures usage { (result ≡ 2) ↔ IsNoCommand (map string_bytes words.now) }
     ensures command { result ≢ 2 → (command : Command) × IsCommand (map string_bytes words.now) command }
     ensures done { result ≡ 0 → Works (map string_bytes words.now) (S.left source.old) (S.left source.new) (K.taken sink.old) (K.taken sink.new) }

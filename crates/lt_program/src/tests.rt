@@ -9,7 +9,9 @@ const HEADER: &str = "rangelock 1\ntrees 1\nlimit 64\nbuffer 0\n";
 
 /// A trace whose second transaction is held, and its transcript.
 const HELD_LINES: &str = "1 try 0 \"a\" \"c\"\n2 try 0 \"c\" \"e\"\n";
-const HELD_TEXT: &str = "0 1 ask 0 \"a\" \"c\" granted\n1 2 ask 0 \"c\" \"e\" held by 1\n2 1 free 0 \"a\" \"c\" 1\ntxn 1 done\ntxn 2 done\nend 3 0\n";
+
+const HELD_TEXT: &str =
+    "0 1 ask 0 \"a\" \"c\" granted\n1 2 ask 0 \"c\" \"e\" held by 1\n2 1 free 0 \"a\" \"c\" 1\ntxn 1 done\ntxn 2 done\nend 3 0\n";
 
 fn words_of(alloc: Global, line: &str) -> Result<Vec<String>, AllocError> {
     let mut words = Vec::new(alloc);
@@ -119,11 +121,19 @@ fn other_bytes_are_refused(rt: HostRuntime) -> Result<(), Fail> {
     let second = "rangelock 2\ntrees 1\nlimit 64\nbuffer 0\n";
     let rows = [
         (HEADER, "1 try 0 \"b\" \"a\"\n", "refused 5 7 backwards\n"),
-        (HEADER, "1 try 1 \"a\" \"a\"\n", "refused 5 5 tree out of range\n"),
+        (
+            HEADER,
+            "1 try 1 \"a\" \"a\"\n",
+            "refused 5 5 tree out of range\n",
+        ),
         (HEADER, "1 end\n1 end\n", "refused 6 8 after end\n"),
         (HEADER, "1 steal 0\n", "refused 5 2 bad line\n"),
         (HEADER, "1 try 0 \"ab\"* \"ab\"\n", "refused 5 2 bad line\n"),
-        (second, "1 try 0 \"ab\"* \"ab\"\n", "refused 5 7 backwards\n"),
+        (
+            second,
+            "1 try 0 \"ab\"* \"ab\"\n",
+            "refused 5 7 backwards\n",
+        ),
         (HEADER, "1 end", "refused 5 10 no final newline\n"),
         ("", "", "refused 1 1 bad header\n"),
         ("rangelock 1\n", "", "refused 2 1 bad header\n"),
@@ -148,7 +158,10 @@ fn a_key_has_at_most_63_bytes(rt: HostRuntime) -> Result<(), Fail> {
     let lines = format!(in alloc; "1 try 0 \"{key}l\" +\n")?;
     let (status, written) = run_serial(alloc, HEADER, lines.as_str())?;
     assert_eq!(rt; status, 3);
-    assert_eq!(rt; written.as_slice(), b"refused 5 6 key too long\n".as_slice());
+    assert_eq!(rt;
+        written.as_slice(),
+        b"refused 5 6 key too long\n".as_slice()
+    );
     Ok(())
 }
 

@@ -1,6 +1,7 @@
 -- What a trace gives its runner.
 use Rattle.std.proofs.Common.{◌≡◌, ℕ, ◌+◌, ◌<◌, ◌≤◌, ◌^◌, List, [], ◌∷◌, ◌++◌, Bool, true, false, Option, Some, None, nat_le, nat_lt, if◌then◌else◌, length, refl, sym, ap, subst, ◌*◌, arith}
 use Rattle.std.specs.List.{All}
+use Rattle.std.specs.Option.{option_or}
 use Rattle.std.proofs.lemmas.Bool.Decides.{nat_tests}
 use Rattle.std.proofs.lemmas.List.{length-append}
 use Rattle.std.proofs.lemmas.List.Elements.{All-nil, All-cons}
@@ -11,7 +12,7 @@ use Rattle.lt_trace.specs.declared.line.LineDeed.{LineDeed}
 use Rattle.lt_trace.specs.declared.line.LineDeed.TheVariants.{Try, Lock, End, Abort, Escalate, Big}
 use Rattle.lt_trace.specs.declared.fault.TraceFault.{TraceFault}
 use Rattle.lt_trace.specs.Trace.{TraceView}
-use Rattle.lt_trace.specs.Grammar.{IsTrace, IsBody, AreFaultless, IsFaultless, IsDeedForm, is_outside, whole}
+use Rattle.lt_trace.specs.Grammar.{IsTrace, IsBody, AreFaultless, IsFaultless, IsDeedForm, is_outside, fault_of_deed, fault_of_turn, whole}
 use Rattle.lt_runner.specs.Serial.{plan_of, setting_of}
 use Rattle.lt_runner.specs.AtOnce.{IsPlain, IsOfTrace, HasPlaces}
 
@@ -19,6 +20,10 @@ use Rattle.lt_runner.specs.AtOnce.{IsPlain, IsOfTrace, HasPlaces}
 not_first : (b : Bool) (fault : TraceFault) (rest : Option TraceFault) → (if b then Some fault else rest) ≡ None → b ≡ false
 not_first true fault rest e = cc
 not_first false fault rest e = refl
+
+none_first : (a b : Option TraceFault) → option_or a b ≡ None → a ≡ None
+none_first None b e = refl
+none_first (Some fault) b e = cc
 
 plain_deed : (setting : Setting) (version : ℕ) (deed : LineDeed) → IsDeedForm version deed → is_outside setting.plan.trees deed ≡ false → IsPlain setting deed
 plain_deed setting version (Try tree range) form inside = grind (arith, nat_tests)
@@ -33,7 +38,7 @@ lines_after : (trace : TraceView) (first : ℕ) (header : List ℕ) (before line
 lines_after trace first header before [] is all = All-nil (IsOfTrace (setting_of trace 1 first))
 lines_after trace first header before (line ∷ lines) is all =
     All-cons (IsOfTrace (setting_of trace 1 first)) line lines
-    (record { txn = all.0.form.least; plain = plain_deed (setting_of trace 1 first) trace.version line.deed all.0.form.deed (not_first _ _ _ all.0.says) })
+    (record { txn = all.0.form.least; plain = plain_deed (setting_of trace 1 first) trace.version line.deed all.0.form.deed (not_first _ _ _ (none_first (fault_of_deed line.number trace.trees line.deed) (fault_of_turn line.number before line.txn) all.0.says)) })
     (lines_after trace first header (before ++ line ∷ []) lines is all.1)
 
 lines_in : (trace : TraceView) (first : ℕ) (lines : List Line) → IsBody (trace.version ∷ trace.trees ∷ trace.limit ∷ trace.buffer ∷ []) lines → All (IsOfTrace (setting_of trace 1 first)) lines

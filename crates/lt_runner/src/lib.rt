@@ -14,3 +14,6 @@ pub use release::Release;
 pub use serial::run_serial;
 pub use transcript::Transcript;
 pub use turn::{Recorded, Turn};
+
+#[cfg(test)]
+mod tests;

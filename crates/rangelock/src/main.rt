@@ -27,7 +27,10 @@ fn main(rt: HostRuntime) -> ExitCode {
 /// The words behind the program's name, or the status for a word that is no text or for want of memory.
 fn words(rt: &(impl Env + Alloc<A = Global>)) -> Result<Vec<String>, u8> {
     match env::args(rt) {
-        Ok(args) => args.skip(1).collect(rt.alloc()).map_err(|_| status::NO_MEMORY),
+        Ok(args) => args
+            .skip(1)
+            .collect(rt.alloc())
+            .map_err(|_| status::NO_MEMORY),
         Err(error) if error.kind() == io::ErrorKind::OutOfMemory => Err(status::NO_MEMORY),
         Err(_) => Err(status::USAGE),
     }
