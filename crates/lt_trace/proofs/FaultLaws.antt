@@ -1,18 +1,18 @@
 -- Bytes spell one trace or have one first fault, and never both.
-use Rattle.std.proofs.Common.{◌≡◌, ℕ, ◌+◌, ◌^◌, ◌<◌, ◌≤◌, inl, inr, ⊎_elim, List, [], ◌∷◌, ◌++◌, Bool, true, false, nat_lt, cond, length, Option, Some, None, decimal, sym, ap, subst, ◌∙◌, refl, lit<, arith, length-append}
+use Rattle.std.proofs.Common.{◌≡◌, ◌≢◌, ℕ, ◌+◌, ◌^◌, ◌<◌, ◌≤◌, ◌⊎◌, inl, inr, ⊎_elim, List, [], ◌∷◌, ◌++◌, Bool, true, false, nat_lt, cond, length, Option, Some, None, codes, decimal, sym, ap, subst, ◌∙◌, refl, lit<, lit≤, arith, append_assoc, length-append}
 use Rattle.std.specs.List.{AllByRecursion}
+use Rattle.std.specs.Option.{option_or}
 use Rattle.std.proofs.lemmas.Bool.Decides.{nat_tests}
 use Rattle.std.proofs.lemmas.Fmt.{length-decimal-le}
 use Rattle.std.proofs.lemmas.List.{append-nil}
 use Rattle.lt_trace.specs.declared.fault.TraceFault.{TraceFault}
 use Rattle.lt_trace.specs.declared.fault.TraceFault.TheVariants as fault
 use Rattle.lt_trace.specs.declared.line.Line.{Line}
-use Rattle.lt_trace.specs.declared.line.LineDeed.{LineDeed}
 use Rattle.lt_trace.specs.Trace.{TraceView}
-use Rattle.lt_trace.specs.Grammar.{HeaderForm, header_forms, header_line, next_form, TextLine, first_line, fault_of_text, fault_of_form, version_in, trees_in, line_text, Forms, IsFaultless, Front, front_text, whole, Spells, IsNoHeader, IsFirst, IsHeaderFault, IsBodyFault, HasFault, IsFirstFault}
+use Rattle.lt_trace.specs.Grammar.{HeaderForm, header_forms, header_line, next_form, TextLine, first_line, fault_of_text, fault_of_form, fault_of_deed, fault_of_turn, version_in, trees_in, line_text, IsForm, Forms, IsFaultless, Front, IsFront, front_text, whole, Spells, IsNoHeader, IsFirst, IsHeaderFault, IsBodyFault, HasFault, IsFirstFault}
 use Rattle.lt_trace.proofs.CutLaws.{first_line_cut}
 use Rattle.lt_trace.proofs.FormLaws.{line_once, line_lacks}
-use Rattle.lt_trace.proofs.FrontLaws.{IsPlain, plain_forms, header_lacks, GoesOn, front_split}
+use Rattle.lt_trace.proofs.FrontLaws.{IsPlain, plain_forms, header_lacks, HeaderMore, LineMore, GoesOn, front_split}
 
 -- What goes on has no fault there.
 
@@ -56,14 +56,12 @@ header_fine form number n behind (b ∷ bs) f plain low least most is wrong =
     let none = ap (fault_of_text number) line ∙ fine_text number (header_line form n) (omega arith) (header_line_short form n plain most) in
     (otherwise (fault_of_text number (first_line (b ∷ bs))) (λ g. IsNoHeader form (first_line (b ∷ bs)).bytes × (g ≡ fault.BadHeader number)) f none wrong).0 n least most (ap (λ (t : TextLine). t.bytes) line)
 
-abbrev rows : ℕ → ℕ → List Line → ℕ → LineDeed → Option TraceFault
-rows number trees before txn deed = fault_of_form number trees before (Some (record { txn = txn; number = number; deed = deed }))
-
 -- two forms of one text have the same faults
 same_faults : (version number trees : ℕ) (before : List Line) (text : List ℕ) (k l : Line) → Forms version text (Some k) → Forms version text (Some l) → fault_of_form number trees before (Some k) ≡ fault_of_form number trees before (Some l)
 same_faults version number trees before text k l one other =
     let once = line_once version k l one.0 other.0 (sym one.1 ∙ other.1) in
-    ap (λ d. rows number trees before k.txn d) once.1 ∙ ap (λ t. rows number trees before t l.deed) once.0
+    ap (λ d. option_or (fault_of_deed number trees d) (fault_of_turn number before k.txn)) once.1
+    ∙ ap (λ t. option_or (fault_of_deed number trees l.deed) (fault_of_turn number before t)) once.0
 
 form_fine : (header : List ℕ) (before : List Line) (line : Line) (form : Option Line) (text : List ℕ) (f : TraceFault) → IsFaultless header before line → text ≡ line_text line → Forms (version_in header) text form → fault_of_form (5 + length before) (trees_in header) before form ≡ Some f → ⊥
 form_fine header before line None text f good is forms wrong = forms line good.form is

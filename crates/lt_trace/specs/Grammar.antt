@@ -1,6 +1,7 @@
 -- The grammar of traces: how each one is spelled, and which line of other bytes is the first faulty one.
 use Rattle.std.specs.Prelude.{◌≡◌, ◌≢◌, ℕ, ◌+◌, ◌^◌, ◌<◌, ◌≤◌, List, [], ◌∷◌, ◌++◌, map, length, Option, Some, None, Bool, true, false, ◌&&◌, ◌||◌, ◌==◌, not, nat_lt, nat_le, if◌then◌else◌, codes, decimal}
 use Rattle.std.specs.List.{flat_map, list_any}
+use Rattle.std.specs.Option.{option_or}
 use Rattle.lt_ranges.specs.declared.key.Key.{Key}
 use Rattle.lt_ranges.specs.declared.key.Key.TheVariants.{Below, Bytes, After, Above}
 use Rattle.lt_ranges.specs.Key.{key_le}
@@ -164,16 +165,25 @@ fault_of_text number text =
     else if not text.ended then Some (fault.NoFinalNewline number)
     else None
 
--- and those that go by what a body line says, behind these lines
+-- those that go by what a body line asks for
+abbrev pub fault_of_deed : ℕ → ℕ → LineDeed → Option TraceFault
+fault_of_deed number trees deed =
+    if is_outside trees deed then Some (fault.TreeOutOfRange number)
+    else if has_long_key deed then Some (fault.KeyTooLong number)
+    else if is_backwards deed then Some (fault.Backwards number)
+    else None
+
+-- and those that go by whose line it is, behind these lines
+abbrev pub fault_of_turn : ℕ → List Line → ℕ → Option TraceFault
+fault_of_turn number before txn =
+    if has_ended txn before then Some (fault.AfterEnd number)
+    else if not (has_begun txn before) && nat_le 1024 (length (txns_of before)) then Some (fault.TooManyTxns number)
+    else None
+
+-- the rows of a body line, behind these lines
 abbrev pub fault_of_form : ℕ → ℕ → List Line → Option Line → Option TraceFault
 fault_of_form number trees before None = Some (fault.BadLine number)
-fault_of_form number trees before (Some line) =
-    if is_outside trees line.deed then Some (fault.TreeOutOfRange number)
-    else if has_long_key line.deed then Some (fault.KeyTooLong number)
-    else if is_backwards line.deed then Some (fault.Backwards number)
-    else if has_ended line.txn before then Some (fault.AfterEnd number)
-    else if not (has_begun line.txn before) && nat_le 1024 (length (txns_of before)) then Some (fault.TooManyTxns number)
-    else None
+fault_of_form number trees before (Some line) = option_or (fault_of_deed number trees line.deed) (fault_of_turn number before line.txn)
 
 -- Traces, and what lines before a faulty one may be.
 

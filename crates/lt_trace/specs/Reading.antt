@@ -1,5 +1,5 @@
 -- What is read of a trace on the way.
-use Rattle.std.specs.Prelude.{◌≡◌, ℕ, List, [], ◌∷◌, ◌++◌, ◌||◌, Option, Some, None, not, ◌&&◌, nat_le, length, if◌then◌else◌, true, false, codes}
+use Rattle.std.specs.Prelude.{◌≡◌, ℕ, List, [], ◌∷◌, ◌++◌, ◌||◌, Option, Some, true, false, codes}
 use Rattle.std.specs.List.{flat_map}
 use Rattle.lt_ranges.specs.declared.key.Key.{Key}
 use Rattle.lt_ranges.specs.Interval.{Interval}
@@ -12,11 +12,10 @@ use Rattle.lt_trace.specs.declared.key_words.Ends.TheVariants as ends
 use Rattle.lt_trace.specs.declared.form.Said.{Said}
 use Rattle.lt_trace.specs.declared.form.Said.TheVariants as said
 use Rattle.lt_trace.specs.declared.fault.TraceFault.{TraceFault}
-use Rattle.lt_trace.specs.declared.fault.TraceFault.TheVariants as fault
 use Rattle.lt_trace.specs.declared.line.Line.{Line}
 use Rattle.lt_trace.specs.declared.line.LineDeed.{LineDeed}
-use Rattle.lt_trace.specs.declared.line.LineDeed.TheVariants.{Try, End}
-use Rattle.lt_trace.specs.Grammar.{is_outside, has_long_key, is_backwards, has_ended, has_begun, txns_of, line_text, Forms, fault_of_form, Front, IsFront, IsFaultless, IsBodyFault}
+use Rattle.lt_trace.specs.declared.line.LineDeed.TheVariants.{Try, Lock, End, Abort, Escalate, Big}
+use Rattle.lt_trace.specs.Grammar.{line_text, Forms, fault_of_form, Front, IsFront, IsFaultless, IsBodyFault}
 
 -- the numbers in their order
 abbrev pub numbers : Header → List ℕ
@@ -60,18 +59,3 @@ IsOneMore header before after bytes rest =
 -- what is wrong with a line of this number and text behind these lines
 abbrev pub IsFormFault : Header → List Line → ℕ → List ℕ → TraceFault → Type 0
 IsFormFault header before number text f = (form : Option Line) × Forms header.version text form × (fault_of_form number header.trees before form ≡ Some f)
-
--- the rows of a body line that go by what it asks for
-abbrev pub fault_of_deed : ℕ → ℕ → LineDeed → Option TraceFault
-fault_of_deed number trees deed =
-    if is_outside trees deed then Some (fault.TreeOutOfRange number)
-    else if has_long_key deed then Some (fault.KeyTooLong number)
-    else if is_backwards deed then Some (fault.Backwards number)
-    else None
-
--- and those that go by whose line it is
-abbrev pub fault_of_turn : ℕ → List Line → ℕ → Option TraceFault
-fault_of_turn number before txn =
-    if has_ended txn before then Some (fault.AfterEnd number)
-    else if not (has_begun txn before) && nat_le 1024 (length (txns_of before)) then Some (fault.TooManyTxns number)
-    else None

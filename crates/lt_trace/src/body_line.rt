@@ -2,8 +2,8 @@
 ghost use Rattle.std.specs.Prelude.{◌≡◌, ◌++◌, ◌∷◌, [], IfOk, IfErr, OnOk, Some, None};
 ghost use Rattle.lt_trace.specs.declared.line.Line.{Line};
 ghost use Rattle.lt_trace.specs.declared.line.LineDeed.{LineDeed};
-ghost use Rattle.lt_trace.specs.Grammar.{IsForm, line_text, fault_of_form, OrNoMemory};
-ghost use Rattle.lt_trace.specs.Reading.{Says, IsFormFault, fault_of_deed, fault_of_turn};
+ghost use Rattle.lt_trace.specs.Grammar.{IsForm, line_text, fault_of_deed, fault_of_turn, fault_of_form, OrNoMemory};
+ghost use Rattle.lt_trace.specs.Reading.{Says, IsFormFault};
 
 use crate::body::Body;
 use crate::fault::TraceFault;
