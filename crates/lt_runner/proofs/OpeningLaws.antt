@@ -1,12 +1,12 @@
 -- The turns before the first line.
-use Rattle.std.proofs.Common.{◌≡◌, ℕ, zero, suc, ◌+◌, ◌<◌, ◌≤◌, List, [], ◌∷◌, Bool, true, false, ◌==◌, ◌||◌, nat_lt, if◌then◌else◌, map, length, get_or, sum_by, replicate, nat_cmp, refl, sym, ap, subst, ◌∙◌, arith, eq-eqb, IsTrue}
+use Rattle.std.proofs.Common.{◌≡◌, ℕ, zero, suc, ◌<◌, ◌≤◌, List, [], ◌∷◌, Bool, true, false, ◌==◌, ◌||◌, nat_lt, if◌then◌else◌, map, length, get_or, sum_by, replicate, nat_cmp, refl, sym, ap, subst, ◌∙◌, arith, eq-eqb}
 use Rattle.std.specs.List.{All, fold}
 use Rattle.std.specs.List.Sorted.{IsStrictlySortedBy}
 use Rattle.std.proofs.lemmas.Bool.Decides.{nat_tests}
 use Rattle.std.proofs.lemmas.List.{length-replicate, length-map, get_or-map}
-use Rattle.std.proofs.lemmas.List.Elements.{All-nil, All-cons, All-head, All-tail, All-map, All-weaker}
+use Rattle.std.proofs.lemmas.List.Elements.{All-nil, All-cons, All-head, All-tail, All-map}
 use Rattle.std.proofs.lemmas.List.Sums.{sum_by-cons}
-use Rattle.lt_ranges.specs.Numbers.{is_in, with_number, ascending}
+use Rattle.lt_ranges.specs.Numbers.{is_in, with_number}
 use Rattle.lt_seq.specs.Table.{Setting}
 use Rattle.lt_trace.specs.declared.line.Line.{Line}
 use Rattle.lt_trace.specs.Grammar.{txns_of}
@@ -14,7 +14,7 @@ use Rattle.lt_runner.specs.TurnView.{Turn}
 use Rattle.lt_runner.specs.Turn.{nothing_recorded}
 use Rattle.lt_seq.specs.declared.event.Event.{Event}
 use Rattle.lt_runner.specs.Serial.{Game, game_at, takes_line, ends_one, opening_game, played}
-use Rattle.lt_runner.specs.AtOnce.{IsQuiet, IsOfTrace, IsPlayable, AreQuiet, AreOpening, fresh_turn, owed_in, owed, owed_by, numbers_of}
+use Rattle.lt_runner.specs.AtOnce.{IsQuiet, IsOfTrace, AreOpening, fresh_turn, owed_in, owed, owed_by, numbers_of}
 
 -- Numbers put into an ascending list.
 

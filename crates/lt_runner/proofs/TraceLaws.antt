@@ -1,5 +1,5 @@
 -- What a trace gives its runner.
-use Rattle.std.proofs.Common.{◌≡◌, ℕ, ◌+◌, ◌<◌, ◌≤◌, ◌^◌, List, [], ◌∷◌, ◌++◌, Bool, true, false, Option, Some, None, nat_le, nat_lt, if◌then◌else◌, length, refl, sym, ap, subst, ◌*◌, arith}
+use Rattle.std.proofs.Common.{◌≡◌, ℕ, ◌+◌, ◌≤◌, ◌^◌, List, [], ◌∷◌, ◌++◌, Bool, true, false, Option, Some, None, nat_lt, if◌then◌else◌, length, refl, sym, ap, subst, ◌*◌, arith}
 use Rattle.std.specs.List.{All}
 use Rattle.std.specs.Option.{option_or}
 use Rattle.std.proofs.lemmas.Bool.Decides.{nat_tests}
@@ -12,7 +12,7 @@ use Rattle.lt_trace.specs.declared.line.LineDeed.{LineDeed}
 use Rattle.lt_trace.specs.declared.line.LineDeed.TheVariants.{Try, Lock, End, Abort, Escalate, Big}
 use Rattle.lt_trace.specs.declared.fault.TraceFault.{TraceFault}
 use Rattle.lt_trace.specs.Trace.{TraceView}
-use Rattle.lt_trace.specs.Grammar.{IsTrace, IsBody, AreFaultless, IsFaultless, IsDeedForm, is_outside, fault_of_deed, fault_of_turn, whole}
+use Rattle.lt_trace.specs.Grammar.{IsTrace, IsBody, AreFaultless, IsDeedForm, is_outside, fault_of_deed, fault_of_turn, whole}
 use Rattle.lt_runner.specs.Serial.{plan_of, setting_of}
 use Rattle.lt_runner.specs.AtOnce.{IsPlain, IsOfTrace, HasPlaces}
 

@@ -1,10 +1,10 @@
-use Rattle.std.proofs.Common.{◌≡◌, ◌∙◌, ap, sym, subst, map, []}
+use Rattle.std.proofs.Common.{◌∙◌, ap, subst, map, []}
 use Rattle.lt_seq.specs.declared.plan.YardPlan.{YardPlan}
 use Rattle.lt_seq.specs.Table.{Setting}
 use Rattle.lt_seq.specs.Passes.{IsRest}
 use Rattle.lt_trace.specs.Grammar.{txns_of}
 use Rattle.lt_history.specs.declared.outcome.Ended.{Ended}
-use Rattle.lt_runner.specs.Serial.{setting_of, played}
+use Rattle.lt_runner.specs.Serial.{played}
 use Rattle.lt_runner.proofs.TraceLaws.{lines_fit, places_fit}
 use Rattle.lt_runner.proofs.ClosingLaws.{tells, only_front, numbers_ended}
 use Rattle.lt_runner.proofs.serial.run_serial.Goals as goal
