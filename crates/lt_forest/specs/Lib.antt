@@ -1,0 +1,17 @@
+pub mod Counts
+pub mod Bounds
+pub mod Changes
+pub mod Trees
+pub mod Paths
+pub mod Cuts
+pub mod Visits
+pub mod Parts
+pub mod Items
+pub mod Layouts
+pub mod Forest
+pub mod Plans
+pub mod Buffers
+pub mod Views
+pub mod Links
+pub mod Openings
+pub mod Widenings
