@@ -1,2 +1,9 @@
 pub mod KeyLaws
+pub mod KeyParts
+pub mod PrefixLaws
 pub mod IntervalLaws
+pub mod SpellingLaws
+pub mod QuotingLaws
+pub mod KeyTextLaws
+pub mod TextFaultLaws
+pub mod ReadSoFar

@@ -5,23 +5,14 @@ ghost use Rattle.lt_ranges.specs.Interval.{Interval, IsInterval, overlap, before
 ghost use Rattle.lt_ranges.specs.RangeOrder.{IsOrderOf};
 
 use crate::key::Key;
+use crate::range_order::RangeOrder;
 use std::marker::Model;
 use thiserror::Error;
 
 /// The left end of a range was greater than its right one.
-#[derive(Debug, Drop, Error)]
+#[derive(Clone, Copy, Debug, PartialEq, Eq, Error)]
 #[error("the left end is greater than the right one")]
 pub struct Backwards;
-
-/// How two ranges stand to each other.
-#[derive(Clone, Copy, Debug, PartialEq, Eq)]
-pub enum RangeOrder {
-    Equal,
-    Less,
-    Greater,
-    /// They overlap and aren't equal.
-    Overlaps,
-}
 
 /// The keys from a left end to a right one, both included.
 #[derive(Clone, Copy, Debug, PartialEq, Eq)]

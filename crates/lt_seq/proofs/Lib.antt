@@ -3,3 +3,8 @@ pub mod TableLaws
 pub mod PairsLaws
 pub mod SpanLaws
 pub mod LawfulLaws
+pub mod YardLaws
+pub mod NumbersLaws
+pub mod SeqLaws
+pub mod RefusalLaws
+pub mod JoinLaws

@@ -45,5 +45,5 @@ lawful-with_pair new [] o clear lawful = (o, tt, tt)
 lawful-with_pair new (p ∷ ps) o clear lawful =
     let rest = lawful-with_pair new ps o clear.1 lawful.2 in
     chosen IsLawful (key_le p.range.left new.range.left) (p ∷ with_pair new ps) (new ∷ p ∷ ps)
-      (λ e. (lawful.0, after-with_pair p.range new ps (apart_left p.range new.range o clear.0 e) lawful.1, rest))
-      (λ e. let first = apart_right p.range new.range lawful.0 clear.0 e in (o, (first, after_on new.range p.range ps first lawful.0 lawful.1), lawful))
+    (λ e. (lawful.0, after-with_pair p.range new ps (apart_left p.range new.range o clear.0 e) lawful.1, rest))
+    (λ e. let first = apart_right p.range new.range lawful.0 clear.0 e in (o, (first, after_on new.range p.range ps first lawful.0 lawful.1), lawful))

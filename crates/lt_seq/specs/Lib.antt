@@ -4,6 +4,8 @@ pub mod Sound
 pub mod History
 pub mod Rows
 pub mod Yard
+pub mod Alone
 pub mod Passes
 pub mod Questions
 pub mod Joins
+pub mod SeqPass

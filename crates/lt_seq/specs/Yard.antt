@@ -164,5 +164,5 @@ pub record OneMore (setting : Setting) (old new : PassView) (txn : ℕ) (deed : 
   pub mine : new.mine ≡ old.mine ++ receipt ∷ []
   pub notes : new.notes ≡ old.notes
   pub rights : new.rights ≡ old.rights
-  pub met : new.met ≡ old.met
+  pub met : old.met ≤ new.met
   pub number : new.number ≡ old.number

@@ -1,35 +1,78 @@
 //! Laws of the table.
-ghost use Rattle.std.specs.Prelude.{◌≡◌, ℕ, ◌+◌, ◌≤◌, List, [], ◌∷◌, ◌++◌, length};
-ghost use Rattle.lt_seq.specs.declared.event.Event.{Event};
+ghost use Rattle.std.specs.Prelude.{◌≡◌, ◌≢◌, ℕ, ◌+◌, ◌^◌, ◌<◌, ◌≤◌, ◌==◌, ◌&&◌, List, [], ◌∷◌, ◌++◌, length, take, Result, true};
+ghost use Rattle.std.specs.List.{list_any};
+ghost use Rattle.std.specs.List.Sorted.{IsStrictlyIncreasing};
+ghost use Rattle.lt_ranges.specs.declared.key.Key.{Key};
+ghost use Rattle.lt_ranges.specs.Interval.{Interval};
+ghost use Rattle.lt_ranges.specs.Numbers.{is_in};
+ghost use Rattle.lt_seq.specs.declared.event.Deed.{Deed};
+ghost use Rattle.lt_seq.specs.declared.event.Deed.TheVariants.{Ask};
 ghost use Rattle.lt_seq.specs.declared.event.Pair.{Pair};
-ghost use Rattle.lt_seq.specs.Pairs.{IsLawful, freed, with_pair, granted, others};
-ghost use Rattle.lt_seq.specs.Sound.{AllSound};
+ghost use Rattle.lt_seq.specs.declared.event.Reply.TheVariants.{HeldBy};
+ghost use Rattle.lt_seq.specs.Pairs.{IsLawful, is_others, others, joined};
+ghost use Rattle.lt_seq.specs.declared.event.Event.{Event};
+ghost use Rattle.lt_seq.specs.declared.event.Receipt.{Receipt};
+ghost use Rattle.lt_seq.specs.declared.fault.Fault.{Fault};
+ghost use Rattle.lt_seq.specs.Joins.{Joins, holds};
+ghost use Rattle.lt_seq.specs.Sound.{IsLawfulTable};
 ghost use Rattle.lt_seq.specs.Rows.{WorkedRows};
-ghost use Rattle.lt_seq.specs.Table.{Setting, TreeState, used, after_ask, rows_in};
-ghost use Rattle.lt_ranges.specs.Interval.{Interval, IsInterval};
+ghost use Rattle.lt_seq.specs.Table.{Setting, TreeState, opening, step, tree_at, used};
 ghost use Rattle.lt_seq.specs.History.{after, IsLegal, IsNext, calls_from};
+ghost use Rattle.lt_seq.specs.Yard.{PassView, HasAll, Answers, AskAnswers, place_after};
+ghost use Rattle.lt_seq.specs.Alone.{AloneAnswers, AloneAskAnswers, IsDone};
 
 /// The worked rows come out so.
 pub fn worked_rows()
     ensures { WorkedRows }
-{
-}
+{}
 
 /// A history goes on by one event.
 pub fn one_event_more()
     ensures legal { (setting : Setting) (events : List Event) (e : Event) → IsLegal setting events → IsNext setting (after setting events) e → IsLegal setting (events ++ e ∷ []) }
     ensures calls { (place pass : ℕ) (events : List Event) (e : Event) → e.pass ≡ pass → calls_from place pass (events ++ e ∷ []) ≡ calls_from place pass events ++ record { place = place + length events; event = e } ∷ [] }
-{
-}
+{}
 
-/// A legal history of n events leaves at most n rows in use.
+/// A step keeps the table lawful: no two pairs of a tree overlap, a buffer's pairs are its transaction's, at least one
+/// and no more than its rows, its rows are from 1 to the buffer maximum, and a score is from 0 to 100. So the table is
+/// lawful at every point of a legal history.
+pub fn lawful_tables()
+    ensures opening { (setting : Setting) → IsLawfulTable setting (opening setting) }
+    ensures step { (setting : Setting) (trees : List TreeState) (e : Event) → IsLawfulTable setting trees → IsNext setting trees e → IsLawfulTable setting (step setting trees e) }
+    ensures history { (setting : Setting) (events : List Event) → IsLegal setting events → (k : ℕ) → IsLawfulTable setting (after setting (take k events)) }
+{}
+
+/// An event adds at most one row, and a legal history of n events leaves at most n rows in use.
 pub fn rows_in_use()
-    ensures { (setting : Setting) (events : List Event) → IsLegal setting events → used (after setting events) ≤ length events }
-{
-}
+    ensures event { (setting : Setting) (trees : List TreeState) (e : Event) → IsLawfulTable setting trees → IsNext setting trees e → used (step setting trees e) ≤ used trees + 1 }
+    ensures history { (setting : Setting) (events : List Event) → IsLegal setting events → used (after setting events) ≤ length events }
+{}
 
-/// At every point of a legal history no two pairs of a tree overlap, and a buffer's pairs are its transaction's.
-pub fn sound_tables()
-    ensures { (setting : Setting) (events : List Event) → IsLegal setting events → AllSound (after setting events) }
-{
-}
+/// A refusal names the other owners whose ranges overlap: exactly these, ascending, and at least one.
+pub fn refusals()
+    ensures named { (setting : Setting) (trees : List TreeState) (e : Event) (tree : ℕ) (range : Interval) (owners : List ℕ) → IsNext setting trees e → e.deed ≡ Ask tree range (HeldBy owners) → (owners ≡ others e.txn range (tree_at trees tree).pairs) × (owners ≢ []) }
+    ensures exact { (txn : ℕ) (range : Interval) (pairs : List Pair) (owner : ℕ) → is_in owner (others txn range pairs) ≡ list_any (λ p. (p.owner == owner) && is_others txn range p) pairs }
+    ensures ascending { (txn : ℕ) (range : Interval) (pairs : List Pair) → IsStrictlyIncreasing (others txn range pairs) }
+{}
+
+/// What a join does to lawful pairs: each owner keeps all its keys, and a key that it gains lies between two of its
+/// ranges that are neighbours; no two neighbours of one owner are left that no mark keeps apart. So no owner is given
+/// a key that another holds.
+pub fn joined_keeps()
+    ensures joins { (marks : List Key) (pairs : List Pair) → IsLawful pairs → Joins marks pairs (joined marks pairs) }
+    ensures others { (marks : List Key) (a b : ℕ) (key : Key) (pairs : List Pair) → IsLawful pairs → holds a key pairs ≡ true → holds b key (joined marks pairs) ≡ true → a ≡ b }
+{}
+
+/// The answers to a pass that has all the rights, in any yard: one event more, at once, or want of memory, or a full
+/// history where the place of the next event is 2^39 or more, or for an ask no locks where the rows in use have
+/// reached the limit. Busy never comes.
+pub fn alone_answers()
+    ensures ask { (setting : Setting) (old new : PassView) (txn : ℕ) (deed : Deed) (result : Result Receipt Fault) → AskAnswers setting old new txn deed result → HasAll setting old → AloneAskAnswers setting old new txn deed result }
+    ensures others { (setting : Setting) (old new : PassView) (txn : ℕ) (deed : Deed) (result : Result Receipt Fault) → Answers setting old new txn deed result → HasAll setting old → AloneAnswers setting old new txn deed result }
+{}
+
+/// So a call of such a pass makes its event unless memory is short, where the place of the next event is below 2^39,
+/// and for an ask the rows in use below the limit.
+pub fn alone_completeness()
+    ensures ask { (setting : Setting) (old new : PassView) (txn : ℕ) (deed : Deed) (result : Result Receipt Fault) → AskAnswers setting old new txn deed result → HasAll setting old → place_after setting old.front < 2 ^ 39 → used (after setting old.front) < setting.plan.limit → IsDone result }
+    ensures others { (setting : Setting) (old new : PassView) (txn : ℕ) (deed : Deed) (result : Result Receipt Fault) → Answers setting old new txn deed result → HasAll setting old → place_after setting old.front < 2 ^ 39 → IsDone result }
+{}

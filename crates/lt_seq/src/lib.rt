@@ -5,11 +5,19 @@ pub mod event;
 pub mod fault;
 pub mod laws;
 pub mod lists;
+pub(crate) mod pairs;
 pub mod plan;
+pub mod seq_pass;
+pub(crate) mod seq_tree;
+pub mod seq_yard;
 pub mod yard;
 
 pub use event::{Deed, Event, Held, JoinNote, Look, Mode, Pair, Receipt, Reply};
 pub use fault::Fault;
 pub use lists::{HeldList, Owners};
 pub use plan::YardPlan;
+pub use seq_yard::SeqYard;
 pub use yard::{Closed, Pass, Yard};
+
+#[cfg(test)]
+mod tests;

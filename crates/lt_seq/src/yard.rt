@@ -85,7 +85,13 @@ pub trait Yard: Sync + Sized + Drop {
     /// `OutOfLocks` comes where a look of this call shows that the rows in use have reached the limit. `HistoryFull`
     /// comes where it shows a place of 2^39 or more, and `Busy` where a row was found held by another pass.
     /// After a fault there is no event of this call.
-    fn ask(&self, pass: &mut Self::Pass, txn: u64, tree: u32, range: &KeyRange) -> Result<Receipt, Fault>
+    fn ask(
+        &self,
+        pass: &mut Self::Pass,
+        txn: u64,
+        tree: u32,
+        range: &KeyRange,
+    ) -> Result<Receipt, Fault>
         requires of { Self.Pass.origin pass.old ≡ origin_of (identity self.now) (setting self.now) }
         requires right { 1 ≤ (Self.Pass.view pass.old).rights }
         requires txn { 1 ≤ txn }
@@ -97,7 +103,14 @@ pub trait Yard: Sync + Sized + Drop {
     /// first free of a release in this tree.
     ///
     /// The faults are those of `ask` but for `OutOfLocks`.
-    fn free(&self, pass: &mut Self::Pass, txn: u64, tree: u32, range: &KeyRange, first: bool) -> Result<Receipt, Fault>
+    fn free(
+        &self,
+        pass: &mut Self::Pass,
+        txn: u64,
+        tree: u32,
+        range: &KeyRange,
+        first: bool,
+    ) -> Result<Receipt, Fault>
         requires of { Self.Pass.origin pass.old ≡ origin_of (identity self.now) (setting self.now) }
         requires right { 1 ≤ (Self.Pass.view pass.old).rights }
         requires txn { 1 ≤ txn }

@@ -10,6 +10,10 @@ returns c = record {
   own_after = refl;
   two = (record { pass = lit< tt; tree = lit< tt; question = refl; replies = refl }, (record { pass = lit< tt; tree = lit< tt; question = refl; replies = refl }, (record { pass = lit< tt; tree = lit< tt; question = refl; replies = refl }, (record { pass = lit< tt; tree = lit< tt; question = refl; replies = refl }, tt))));
   two_after = refl;
+  shared = (record { pass = lit< tt; tree = lit< tt; question = refl; replies = refl }, (record { pass = lit< tt; tree = lit< tt; question = refl; replies = refl }, (record { pass = lit< tt; tree = lit< tt; question = refl; replies = refl }, tt)));
+  shared_after = refl;
+  limit = (record { pass = lit< tt; tree = lit< tt; question = refl; replies = refl }, tt);
+  limit_shows = refl;
   dropped = (record { pass = lit< tt; tree = lit< tt; question = refl; replies = refl }, (record { pass = lit< tt; tree = lit< tt; question = refl; replies = refl }, (record { pass = lit< tt; tree = lit< tt; question = refl; replies = refl }, (record { pass = lit< tt; tree = lit< tt; question = refl; replies = refl }, tt))));
   dropped_after = refl;
 }

@@ -1,0 +1,85 @@
+//! Worked examples of keys, their texts and ranges.
+use crate::{Key, KeyRange, KeyTooLong, RangeOrder, TextFault};
+
+/// 64 letters between two quotation marks.
+const LONG_TEXT: [u8; 66] =
+    *b"\"aaaaaaaaaaaaaaaaaaaaaaaaaaaaaaaaaaaaaaaaaaaaaaaaaaaaaaaaaaaaaaaa\"";
+
+#[test]
+fn a_key_has_at_most_63_bytes(rt: HostRuntime) {
+    assert!(rt; Key::new(&LONG_TEXT[1..64]).is_ok());
+    assert_eq!(rt; Key::new(&LONG_TEXT[1..65]), Err(KeyTooLong));
+    assert_eq!(rt; Key::after(&LONG_TEXT[1..65]), Err(KeyTooLong));
+    let longest = Key::after(&[0xff; 63]).map(|key| key.text().as_slice().len());
+    assert_eq!(rt; longest, Ok(255));
+}
+
+#[test]
+fn keys_in_order_and_their_texts(rt: HostRuntime) {
+    let texts = [
+        b"-".as_slice(),
+        b"\"\"",
+        b"\"\\x00\\xff\"",
+        b"\" \"",
+        b"\"a\\x22\\x5c\"",
+        b"\"abc\"",
+        b"\"abcz\"",
+        b"\"abc\"*",
+        b"\"abd\"",
+        b"\"zzz\"",
+        b"\"\"*",
+        b"+",
+    ];
+    let mut last = None;
+    for text in texts {
+        let key = Key::read(text).ok();
+        assert!(rt; last < key, "{text:?}");
+        let again = key.map(|key| key.text());
+        assert_eq!(rt; again.as_ref().map(|text| text.as_slice()), Some(text));
+        last = key;
+    }
+    assert_eq!(rt; Key::read(b"-"), Ok(Key::Below));
+    assert_eq!(rt;
+        Key::read(b"\"\\x00\\xff\"").ok(),
+        Key::new(b"\x00\xff").ok()
+    );
+}
+
+#[test]
+fn texts_of_no_key_are_refused(rt: HostRuntime) {
+    let refused = [
+        (b"\"\\x61\"".as_slice(), TextFault::NotText),
+        (b"\"\\xFF\"", TextFault::NotText),
+        (b"\"a\"b\"", TextFault::NotText),
+        (b"\"", TextFault::NotText),
+        (b"", TextFault::NotText),
+        (b"-*", TextFault::NotText),
+        (&LONG_TEXT[..65], TextFault::NotText),
+        (&LONG_TEXT, TextFault::TooLong),
+    ];
+    for (text, fault) in refused {
+        assert_eq!(rt; Key::read(text), Err(fault), "{text:?}");
+    }
+}
+
+fn range(left: &[u8], right: &[u8]) -> Option<KeyRange> {
+    KeyRange::new(Key::new(left).ok()?, Key::new(right).ok()?).ok()
+}
+
+#[test]
+fn ranges_stand_to_each_other(rt: HostRuntime) {
+    let rows = [
+        (b"a", b"c", b"c", b"e", RangeOrder::Overlaps),
+        (b"a", b"b", b"c", b"d", RangeOrder::Less),
+        (b"c", b"d", b"a", b"b", RangeOrder::Greater),
+        (b"a", b"b", b"a", b"b", RangeOrder::Equal),
+    ];
+    for (left, right, other_left, other_right, order) in rows {
+        let (Some(one), Some(other)) = (range(left, right), range(other_left, other_right)) else {
+            assert!(rt; false, "a range was refused");
+            return;
+        };
+        assert!(rt; one.compare(&other) == order);
+    }
+    assert!(rt; range(b"c", b"a").is_none());
+}

@@ -1,0 +1,120 @@
+-- What a line comes to where no turn waits: all of it happens at once.
+use Rattle.std.specs.Prelude.{◌≡◌, ℕ, ◌+◌, ◌^◌, ◌<◌, ◌≤◌, List, [], ◌∷◌, ◌++◌, length, map, sum_by, Option, Some, None, Bool, true, false, is_none, is_some, nat_lt, if◌then◌else◌, IsTrue}
+use Rattle.std.specs.List.{All}
+use Rattle.std.specs.List.Sorted.{IsStrictlySortedBy}
+use Rattle.std.specs.Ordering.{nat_cmp}
+use Rattle.lt_ranges.specs.Numbers.{is_in}
+use Rattle.lt_ranges.specs.Interval.{Interval}
+use Rattle.lt_seq.specs.declared.event.Deed.TheVariants.{Ask, Free}
+use Rattle.lt_seq.specs.declared.event.Reply.TheVariants.{Granted}
+use Rattle.lt_seq.specs.declared.event.Event.{Event}
+use Rattle.lt_seq.specs.Table.{Setting, used}
+use Rattle.lt_seq.specs.History.{after, IsLegal}
+use Rattle.lt_seq.specs.Yard.{PassView, HasAll, IsPlan, place_after, event_after}
+use Rattle.lt_trace.specs.declared.line.Line.{Line}
+use Rattle.lt_trace.specs.declared.line.LineDeed.{LineDeed}
+use Rattle.lt_trace.specs.declared.line.LineDeed.TheVariants.{Try, Lock, End, Abort, Escalate, Big}
+use Rattle.lt_history.specs.declared.outcome.Outcome.{Outcome}
+use Rattle.lt_history.specs.declared.outcome.Outcome.TheVariants.{Done, OutOfLocks}
+use Rattle.lt_runner.specs.declared.release.Release.{Release}
+use Rattle.lt_runner.specs.TurnView.{Turn, Recorded}
+use Rattle.lt_runner.specs.Turn.{answered_by, reply_in, releases_from}
+use Rattle.lt_runner.specs.Attempt.{bar_of}
+
+-- the pass has number 0 and all the rights, and has seen a legal history
+pub record IsAlone (setting : Setting) (pass : PassView) : Type 0 where
+  pub plan : IsPlan setting.plan
+  pub number : pass.number ≡ 0
+  pub right : 1 ≤ pass.rights
+  pub all : HasAll setting pass
+  pub legal : IsLegal setting pass.front
+
+-- no line of the turn is put off, and it owes no free
+pub record IsQuiet (setting : Setting) (turn : Turn) : Type 0 where
+  pub txn : 1 ≤ turn.txn
+  pub lines : turn.lines ≡ []
+  pub waits : turn.waits ≡ false
+  pub recorded : length turn.recorded ≡ setting.plan.trees
+  pub releases : turn.releases ≡ []
+  pub big : turn.big ≡ false
+
+-- the lines that are played so
+abbrev pub IsPlain : Setting → LineDeed → Type 0
+IsPlain setting (Try tree range) = tree < setting.plan.trees
+IsPlain setting (Lock tree range) = ⊥
+IsPlain setting End = Unit {0}
+IsPlain setting Abort = ⊥
+IsPlain setting (Escalate tree) = ⊥
+IsPlain setting Big = ⊥
+
+-- a turn with the history
+pub record Step : Type 0 where
+  pub events : List Event
+  pub turn : Turn
+
+abbrev pub step_at : List Event → Turn → Step
+step_at events turn = record { events = events; turn = turn }
+
+-- the history after these frees
+abbrev pub freed : Setting → ℕ → List Release → List Event → List Event
+freed setting txn [] events = events
+freed setting txn (r ∷ rs) events =
+    freed setting txn rs (events ++ event_after setting events 0 txn (Free r.tree r.range r.first 0) ∷ [])
+
+-- the turn ends so, and gives back all that it recorded
+abbrev pub ended_by : Setting → Outcome → Step → Step
+ended_by setting outcome step = record {
+  events = freed setting step.turn.txn (releases_from 0 step.turn.recorded) step.events;
+  turn = record step.turn { outcome = Some outcome };
+}
+
+-- it asks for a range where there is room, and is out of locks otherwise
+abbrev pub asked : Setting → ℕ → Interval → Step → Step
+asked setting tree range step =
+    if nat_lt (used (after setting step.events)) (bar_of setting step.turn)
+    then (let ask = event_after setting step.events 0 step.turn.txn (Ask tree range Granted) in
+    record { events = step.events ++ ask ∷ []; turn = answered_by tree range (reply_in ask.deed) step.turn })
+    else ended_by setting (OutOfLocks (place_after setting step.events) (used (after setting step.events))) step
+
+-- what a line makes of a turn that goes on
+abbrev pub lined : Setting → LineDeed → Step → Step
+lined setting (Try tree range) step = asked setting tree range step
+lined setting (Lock tree range) step = step
+lined setting End step = ended_by setting Done step
+lined setting Abort step = step
+lined setting (Escalate tree) step = step
+lined setting Big step = step
+
+-- what it makes of any turn: one that has ended plays no more
+abbrev pub played_by : Setting → LineDeed → Step → Step
+played_by setting deed step = if is_some step.turn.outcome then step else lined setting deed step
+
+-- the frees that a turn may still make
+abbrev pub owed_in : Recorded → ℕ
+owed_in r = length r.ranges + (if r.buffered then 1 else 0)
+
+abbrev pub owed : Turn → ℕ
+owed turn = if is_some turn.outcome then 0 else sum_by owed_in turn.recorded
+
+-- there is a place for each event that is left to come
+abbrev pub HasPlaces : Setting → List Event → ℕ → Type 0
+HasPlaces setting events count = place_after setting events + count < 2 ^ 39
+
+abbrev pub owed_by : List Turn → ℕ
+owed_by turns = sum_by owed turns
+
+abbrev pub numbers_of : List Turn → List ℕ
+numbers_of turns = map (λ turn. turn.txn) turns
+
+-- the turns ascend, and no line is put off
+pub record AreQuiet (setting : Setting) (turns : List Turn) : Type 0 where
+  pub sorted : IsStrictlySortedBy nat_cmp (numbers_of turns)
+  pub quiet : All (IsQuiet setting) turns
+
+-- the line is played so, and is of one of these transactions
+pub record IsPlayable (setting : Setting) (txns : List ℕ) (line : Line) : Type 0 where
+  pub plain : IsPlain setting line.deed
+  pub there : IsTrue (is_in line.txn txns)
+
+abbrev pub HasEnded : Turn → Type 0
+HasEnded turn = IsTrue (is_some turn.outcome)

@@ -1,0 +1,56 @@
+//! The calls of a pass that has all the rights.
+ghost use Rattle.std.specs.Prelude.{◌≡◌, ◌≤◌, ◌<◌, [], ◌∷◌, ◌++◌, OnOk};
+ghost use Rattle.lt_seq.specs.declared.event.Deed.TheVariants.{Ask, Free};
+ghost use Rattle.lt_seq.specs.declared.event.Reply.TheVariants.{Granted};
+ghost use Rattle.lt_seq.specs.Alone.{AloneAskAnswers, AloneAnswers};
+ghost use Rattle.lt_seq.specs.Yard.{origin_of, event_after};
+ghost use Rattle.lt_runner.specs.AtOnce.{IsAlone, HasPlaces};
+
+use crate::release::Release;
+use lt_ranges::KeyRange;
+use lt_seq::yard::{Pass, Yard};
+use lt_seq::{Fault, Receipt};
+use std::alloc::AllocError;
+
+/// Asks for a range.
+pub(crate) fn ask<Y: Yard>(
+    yard: &Y,
+    pass: &mut Y::Pass,
+    txn: u64,
+    tree: u32,
+    range: &KeyRange,
+) -> Result<Receipt, Fault>
+    requires of { Y.Pass.origin pass.old ≡ origin_of (Y.identity yard.now) (Y.setting yard.now) }
+    requires alone { IsAlone (Y.setting yard.now) (Y.Pass.view pass.old) }
+    requires txn { 1 ≤ txn }
+    requires tree { tree < (Y.setting yard.now).plan.trees }
+    ensures of { Y.Pass.origin pass.new ≡ origin_of (Y.identity yard.now) (Y.setting yard.now) }
+    ensures alone { IsAlone (Y.setting yard.now) (Y.Pass.view pass.new) }
+    ensures answer { AloneAskAnswers (Y.setting yard.now) (Y.Pass.view pass.old) (Y.Pass.view pass.new) txn (Ask tree range.now Granted) result }
+{
+    yard.ask(pass, txn, tree, range)
+}
+
+/// Makes one free of a release. There is a place for it.
+pub(crate) fn free<Y: Yard>(
+    yard: &Y,
+    pass: &mut Y::Pass,
+    txn: u64,
+    release: &Release,
+) -> Result<(), AllocError>
+    requires of { Y.Pass.origin pass.old ≡ origin_of (Y.identity yard.now) (Y.setting yard.now) }
+    requires alone { IsAlone (Y.setting yard.now) (Y.Pass.view pass.old) }
+    requires txn { 1 ≤ txn }
+    requires tree { release.now.tree < (Y.setting yard.now).plan.trees }
+    requires place { HasPlaces (Y.setting yard.now) (Y.Pass.view pass.old).front 0 }
+    ensures of { Y.Pass.origin pass.new ≡ origin_of (Y.identity yard.now) (Y.setting yard.now) }
+    ensures alone { IsAlone (Y.setting yard.now) (Y.Pass.view pass.new) }
+    ensures freed { OnOk result ((Y.Pass.view pass.new).front ≡ (Y.Pass.view pass.old).front
+        ++ event_after (Y.setting yard.now) (Y.Pass.view pass.old).front 0 txn (Free release.now.tree release.now.range release.now.first 0) ∷ []) }
+{
+    match yard.free(pass, txn, release.tree, &release.range, release.first) {
+        Ok(_) => Ok(()),
+        Err(Fault::OutOfMemory) => Err(AllocError),
+        Err(_) => unreachable!(),
+    }
+}

@@ -1,0 +1,174 @@
+//! One transaction's lines, by a pass that has all the rights.
+ghost use Rattle.std.specs.Prelude.{◌≡◌, ◌≤◌, ◌<◌, OnOk, length};
+ghost use Rattle.lt_seq.specs.Yard.{origin_of};
+ghost use Rattle.lt_runner.specs.Turn.{releases_by, releases_in, releases_from};
+ghost use Rattle.lt_runner.specs.AtOnce.{IsAlone, IsQuiet, IsPlain, HasPlaces, Step, step_at, freed, ended_by, asked, played_by, owed_in, owed};
+ghost use Rattle.std.specs.Prelude.{sum_by, true, is_some, false};
+
+use crate::calls;
+use crate::release::Release;
+use crate::turn::{Recorded, Turn};
+use lt_history::Outcome;
+use lt_ranges::KeyRange;
+use lt_seq::Fault;
+use lt_seq::yard::{Pass, Yard};
+use lt_trace::LineDeed;
+use std::alloc::AllocError;
+
+/// Frees the ranges of a tree, one after another.
+fn free_ranges<Y: Yard>(
+    yard: &Y,
+    pass: &mut Y::Pass,
+    txn: u64,
+    tree: u32,
+    ranges: &[KeyRange],
+) -> Result<(), AllocError>
+    requires of { Y.Pass.origin pass.old ≡ origin_of (Y.identity yard.now) (Y.setting yard.now) }
+    requires alone { IsAlone (Y.setting yard.now) (Y.Pass.view pass.old) }
+    requires txn { 1 ≤ txn }
+    requires tree { tree < (Y.setting yard.now).plan.trees }
+    requires places { HasPlaces (Y.setting yard.now) (Y.Pass.view pass.old).front (length ranges.now) }
+    ensures of { Y.Pass.origin pass.new ≡ origin_of (Y.identity yard.now) (Y.setting yard.now) }
+    ensures alone { IsAlone (Y.setting yard.now) (Y.Pass.view pass.new) }
+    ensures freed { OnOk result ((Y.Pass.view pass.new).front ≡ freed (Y.setting yard.now) txn (releases_by tree true ranges.now) (Y.Pass.view pass.old).front) }
+{
+    let mut first = true;
+    for range in ranges {
+        let release = Release {
+            tree,
+            range: *range,
+            first,
+        };
+        calls::free(yard, pass, txn, &release)?;
+        first = false;
+    }
+    Ok(())
+}
+
+/// Frees what was recorded in a tree: all at once where the last grant was buffered.
+fn free_tree<Y: Yard>(
+    yard: &Y,
+    pass: &mut Y::Pass,
+    txn: u64,
+    tree: u32,
+    recorded: &Recorded,
+) -> Result<(), AllocError>
+    requires of { Y.Pass.origin pass.old ≡ origin_of (Y.identity yard.now) (Y.setting yard.now) }
+    requires alone { IsAlone (Y.setting yard.now) (Y.Pass.view pass.old) }
+    requires txn { 1 ≤ txn }
+    requires tree { tree < (Y.setting yard.now).plan.trees }
+    requires places { HasPlaces (Y.setting yard.now) (Y.Pass.view pass.old).front (owed_in recorded.now) }
+    ensures of { Y.Pass.origin pass.new ≡ origin_of (Y.identity yard.now) (Y.setting yard.now) }
+    ensures alone { IsAlone (Y.setting yard.now) (Y.Pass.view pass.new) }
+    ensures freed { OnOk result ((Y.Pass.view pass.new).front ≡ freed (Y.setting yard.now) txn (releases_in tree recorded.now) (Y.Pass.view pass.old).front) }
+{
+    if recorded.buffered {
+        let release = Release {
+            tree,
+            range: KeyRange::whole(),
+            first: true,
+        };
+        calls::free(yard, pass, txn, &release)
+    } else {
+        free_ranges(yard, pass, txn, tree, &recorded.ranges)
+    }
+}
+
+/// Frees all that was recorded, tree by tree.
+fn free_all<Y: Yard>(
+    yard: &Y,
+    pass: &mut Y::Pass,
+    txn: u64,
+    recorded: &[Recorded],
+) -> Result<(), AllocError>
+    requires of { Y.Pass.origin pass.old ≡ origin_of (Y.identity yard.now) (Y.setting yard.now) }
+    requires alone { IsAlone (Y.setting yard.now) (Y.Pass.view pass.old) }
+    requires txn { 1 ≤ txn }
+    requires trees { length recorded.now ≡ (Y.setting yard.now).plan.trees }
+    requires places { HasPlaces (Y.setting yard.now) (Y.Pass.view pass.old).front (sum_by owed_in recorded.now) }
+    ensures of { Y.Pass.origin pass.new ≡ origin_of (Y.identity yard.now) (Y.setting yard.now) }
+    ensures alone { IsAlone (Y.setting yard.now) (Y.Pass.view pass.new) }
+    ensures freed { OnOk result ((Y.Pass.view pass.new).front ≡ freed (Y.setting yard.now) txn (releases_from 0 recorded.now) (Y.Pass.view pass.old).front) }
+{
+    let mut tree = 0;
+    for in_tree in recorded {
+        free_tree(yard, pass, txn, tree, in_tree)?;
+        tree += 1;
+    }
+    Ok(())
+}
+
+/// Ends a transaction: all that it recorded is freed.
+fn end<Y: Yard>(
+    yard: &Y,
+    pass: &mut Y::Pass,
+    turn: &mut Turn,
+    outcome: Outcome,
+) -> Result<(), AllocError>
+    requires of { Y.Pass.origin pass.old ≡ origin_of (Y.identity yard.now) (Y.setting yard.now) }
+    requires alone { IsAlone (Y.setting yard.now) (Y.Pass.view pass.old) }
+    requires quiet { IsQuiet (Y.setting yard.now) turn.old }
+    requires open { is_some turn.old.outcome ≡ false }
+    requires places { HasPlaces (Y.setting yard.now) (Y.Pass.view pass.old).front (owed turn.old) }
+    ensures of { Y.Pass.origin pass.new ≡ origin_of (Y.identity yard.now) (Y.setting yard.now) }
+    ensures alone { IsAlone (Y.setting yard.now) (Y.Pass.view pass.new) }
+    ensures ended { OnOk result (step_at (Y.Pass.view pass.new).front turn.new ≡ ended_by (Y.setting yard.now) outcome (step_at (Y.Pass.view pass.old).front turn.old)) }
+{
+    free_all(yard, pass, turn.txn, &turn.recorded)?;
+    turn.end(outcome);
+    Ok(())
+}
+
+/// Asks for a range. A transaction that is out of locks ends.
+fn ask<Y: Yard>(
+    yard: &Y,
+    pass: &mut Y::Pass,
+    turn: &mut Turn,
+    tree: u32,
+    range: &KeyRange,
+) -> Result<(), AllocError>
+    requires of { Y.Pass.origin pass.old ≡ origin_of (Y.identity yard.now) (Y.setting yard.now) }
+    requires alone { IsAlone (Y.setting yard.now) (Y.Pass.view pass.old) }
+    requires quiet { IsQuiet (Y.setting yard.now) turn.old }
+    requires open { is_some turn.old.outcome ≡ false }
+    requires tree { tree < (Y.setting yard.now).plan.trees }
+    requires places { HasPlaces (Y.setting yard.now) (Y.Pass.view pass.old).front (owed turn.old) }
+    ensures of { Y.Pass.origin pass.new ≡ origin_of (Y.identity yard.now) (Y.setting yard.now) }
+    ensures alone { IsAlone (Y.setting yard.now) (Y.Pass.view pass.new) }
+    ensures asked { OnOk result (step_at (Y.Pass.view pass.new).front turn.new ≡ asked (Y.setting yard.now) tree range.now (step_at (Y.Pass.view pass.old).front turn.old)) }
+{
+    match calls::ask(yard, pass, turn.txn, tree, range) {
+        Ok(receipt) => turn.answer(tree, range, &receipt.event.deed),
+        Err(Fault::OutOfLocks { place, used }) => {
+            end(yard, pass, turn, Outcome::OutOfLocks { place, used })
+        }
+        Err(Fault::OutOfMemory) => Err(AllocError),
+        Err(_) => unreachable!(),
+    }
+}
+
+/// Plays a line of a transaction, if it has not ended.
+pub(crate) fn play<Y: Yard>(
+    yard: &Y,
+    pass: &mut Y::Pass,
+    turn: &mut Turn,
+    deed: &LineDeed,
+) -> Result<(), AllocError>
+    requires of { Y.Pass.origin pass.old ≡ origin_of (Y.identity yard.now) (Y.setting yard.now) }
+    requires alone { IsAlone (Y.setting yard.now) (Y.Pass.view pass.old) }
+    requires quiet { IsQuiet (Y.setting yard.now) turn.old }
+    requires plain { IsPlain (Y.setting yard.now) deed.now }
+    requires places { HasPlaces (Y.setting yard.now) (Y.Pass.view pass.old).front (owed turn.old) }
+    ensures of { Y.Pass.origin pass.new ≡ origin_of (Y.identity yard.now) (Y.setting yard.now) }
+    ensures alone { IsAlone (Y.setting yard.now) (Y.Pass.view pass.new) }
+    ensures played { OnOk result (step_at (Y.Pass.view pass.new).front turn.new ≡ played_by (Y.setting yard.now) deed.now (step_at (Y.Pass.view pass.old).front turn.old)) }
+{
+    if turn.has_ended() {
+        return Ok(());
+    }
+    match deed {
+        LineDeed::Try { tree, range } => ask(yard, pass, turn, *tree, range),
+        LineDeed::End => end(yard, pass, turn, Outcome::Done),
+        _ => unreachable!(),
+    }
+}

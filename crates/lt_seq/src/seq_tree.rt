@@ -1,0 +1,153 @@
+//! One tree of the plain table.
+ghost use Rattle.std.specs.Prelude.{◌≡◌, ◌++◌, OnOk, OnErr, IfOk};
+ghost use Rattle.lt_seq.specs.Table.{fresh, rows_in, ended, is_whole, is_buffered, ask_reply, after_ask, free_count, after_free};
+ghost use Rattle.lt_seq.specs.SeqPass.{held_in};
+
+use crate::event::{Held, Mode, Pair, Reply};
+use crate::lists::Owners;
+use crate::pairs::{add_held, free, grant, others_of};
+use lt_ranges::{Key, KeyRange};
+use std::alloc::{AllocError, Global};
+use std::marker::Model;
+
+/// A tree's pairs and mode.
+#[derive(Debug, Drop)]
+pub(crate) struct SeqTree {
+    pairs: Vec<Pair>,
+    mode: Mode,
+}
+
+impl Model for SeqTree {
+    ghost use Rattle.lt_seq.specs.Table.{TreeState};
+
+    ghost Value = { TreeState };
+
+    ghost view = { λ t. record { pairs = t.pairs.items; mode = t.mode } };
+}
+
+fn ended(mode: Mode) -> Mode
+    ensures { result ≡ ended mode }
+{
+    match mode {
+        Mode::Tree { score } => Mode::Tree { score },
+        Mode::Buffer { .. } => Mode::Tree { score: 0 },
+    }
+}
+
+fn is_whole(range: &KeyRange) -> bool
+    ensures { result ≡ is_whole range.now }
+{
+    range.left().is_at_most(&Key::Below) && Key::Above.is_at_most(&range.right())
+}
+
+impl SeqTree {
+    pub(crate) fn new(alloc: Global) -> Self
+        ensures { result ≡ fresh }
+    {
+        SeqTree {
+            pairs: Vec::new(alloc),
+            mode: Mode::Tree { score: 100 },
+        }
+    }
+
+    pub(crate) fn rows(&self) -> u64
+        ensures { result ≡ rows_in self.now.pairs self.now.mode }
+    {
+        match self.mode {
+            Mode::Tree { .. } => self.pairs.len() as u64,
+            Mode::Buffer { count, .. } => count,
+        }
+    }
+
+    fn is_buffered(&self, buffer: u64, txn: u64) -> bool
+        ensures { result ≡ is_buffered buffer txn self.now.pairs self.now.mode }
+    {
+        match self.mode {
+            Mode::Tree { score } => score == 100 && self.pairs.is_empty() && 0 < buffer,
+            Mode::Buffer { txn: owner, count } => owner == txn && count < buffer,
+        }
+    }
+
+    /// The answer to an ask.
+    pub(crate) fn reply(
+        &self,
+        alloc: Global,
+        buffer: u64,
+        txn: u64,
+        range: &KeyRange,
+    ) -> Result<Reply, AllocError>
+        ensures { IfOk result (λ reply. reply ≡ ask_reply buffer txn range.now self.now) }
+    {
+        if self.is_buffered(buffer, txn) {
+            return Ok(Reply::Buffered);
+        }
+        let others = others_of(alloc, &self.pairs, txn, range)?;
+        if others.is_empty() {
+            Ok(Reply::Granted)
+        } else {
+            Ok(Reply::HeldBy(Owners::of(others)))
+        }
+    }
+
+    /// Does what an ask does, whose answer is this.
+    pub(crate) fn ask(
+        &mut self,
+        buffer: u64,
+        txn: u64,
+        range: &KeyRange,
+        reply: &Reply,
+    ) -> Result<(), AllocError>
+        requires { reply.now ≡ ask_reply buffer txn range.now self.old }
+        ensures ok { OnOk result (self.new ≡ after_ask buffer txn range.now self.old) }
+        ensures err { OnErr result (self.new ≡ self.old) }
+    {
+        match reply {
+            Reply::Granted => {
+                grant(&mut self.pairs, txn, range)?;
+                self.mode = ended(self.mode);
+            }
+            Reply::Buffered => {
+                let mode = match self.mode {
+                    Mode::Tree { .. } => Mode::Buffer { txn, count: 1 },
+                    Mode::Buffer { count, .. } => Mode::Buffer {
+                        txn,
+                        count: count + 1,
+                    },
+                };
+                grant(&mut self.pairs, txn, range)?;
+                self.mode = mode;
+            }
+            Reply::HeldBy(_) => self.mode = ended(self.mode),
+        }
+        Ok(())
+    }
+
+    /// Does what a free does, and answers its count.
+    pub(crate) fn free(&mut self, txn: u64, range: &KeyRange, first: bool) -> u64
+        ensures count { result ≡ free_count txn range.now self.old }
+        ensures after { self.new ≡ after_free txn range.now first self.old }
+    {
+        if let Mode::Buffer { txn: owner, .. } = self.mode
+            && owner == txn
+            && is_whole(range)
+        {
+            let count = self.pairs.len() as u64;
+            self.pairs.clear();
+            self.mode = Mode::Tree { score: 100 };
+            return count;
+        }
+        let count = free(&mut self.pairs, txn, range) as u64;
+        self.mode = match ended(self.mode) {
+            Mode::Tree { score } if first && score < 100 => Mode::Tree { score: score + 1 },
+            mode => mode,
+        };
+        count
+    }
+
+    /// Puts the tree's pairs behind those of the trees below it.
+    pub(crate) fn add_held(&self, number: u32, left: &mut Vec<Held>) -> Result<(), AllocError>
+        ensures { OnOk result (left.new.items ≡ left.old.items ++ held_in number self.now.pairs) }
+    {
+        add_held(left, number, &self.pairs)
+    }
+}

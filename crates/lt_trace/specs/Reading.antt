@@ -1,0 +1,61 @@
+-- What is read of a trace on the way.
+use Rattle.std.specs.Prelude.{◌≡◌, ℕ, List, [], ◌∷◌, ◌++◌, ◌||◌, Option, Some, true, false, codes}
+use Rattle.std.specs.List.{flat_map}
+use Rattle.lt_ranges.specs.declared.key.Key.{Key}
+use Rattle.lt_ranges.specs.Interval.{Interval}
+use Rattle.lt_ranges.specs.KeyText.{is_long}
+use Rattle.lt_trace.specs.declared.header.Header.{Header}
+use Rattle.lt_trace.specs.declared.key_words.KeyWord.{KeyWord}
+use Rattle.lt_trace.specs.declared.key_words.KeyWord.TheVariants.{Fits, Long}
+use Rattle.lt_trace.specs.declared.key_words.Ends.{Ends}
+use Rattle.lt_trace.specs.declared.key_words.Ends.TheVariants as ends
+use Rattle.lt_trace.specs.declared.form.Said.{Said}
+use Rattle.lt_trace.specs.declared.form.Said.TheVariants as said
+use Rattle.lt_trace.specs.declared.fault.TraceFault.{TraceFault}
+use Rattle.lt_trace.specs.declared.line.Line.{Line}
+use Rattle.lt_trace.specs.declared.line.LineDeed.{LineDeed}
+use Rattle.lt_trace.specs.declared.line.LineDeed.TheVariants.{Try, Lock, End, Abort, Escalate, Big}
+use Rattle.lt_trace.specs.Grammar.{line_text, Forms, fault_of_form, Front, IsFront, IsFaultless, IsBodyFault}
+
+-- the numbers in their order
+abbrev pub numbers : Header → List ℕ
+numbers header = header.version ∷ header.trees ∷ header.limit ∷ header.buffer ∷ []
+
+-- what is kept of a key
+abbrev pub IsKeyWord : KeyWord → Key → Type 0
+IsKeyWord (Fits word) key = (word ≡ key) × (is_long key ≡ false)
+IsKeyWord Long key = is_long key ≡ true
+
+-- what is kept of a range
+abbrev pub AreEnds : Ends → Interval → Type 0
+AreEnds (ends.Fit left right) range = (left ≡ range.left) × (right ≡ range.right) × ((is_long range.left || is_long range.right) ≡ false)
+AreEnds ends.Long range = (is_long range.left || is_long range.right) ≡ true
+
+-- what is kept of a deed
+abbrev pub Says : Said → LineDeed → Type 0
+Says (said.Try tree kept) (Try t range) = (tree ≡ t) × AreEnds kept range
+Says (said.Try tree kept) _ = ⊥
+Says said.End End = Unit {0}
+Says said.End _ = ⊥
+
+-- the text of body lines
+abbrev pub body_text : List Line → List ℕ
+body_text lines = flat_map (λ line. line_text line ++ codes "\n") lines
+
+-- a header with body lines behind it
+abbrev pub front_of : Header → List Line → Front
+front_of header lines = record { header = numbers header; lines = lines }
+
+-- the first fault of the bytes behind a header
+abbrev pub IsFirstBodyFault : Header → List ℕ → TraceFault → Type 0
+IsFirstBodyFault header bytes f =
+    (lines : List Line) × (rest : List ℕ) × IsFront (front_of header lines) × (bytes ≡ body_text lines ++ rest) × IsBodyFault (numbers header) lines rest f
+
+-- the lines before, one line without a fault that the bytes begin with, and what stands behind it
+abbrev pub IsOneMore : Header → List Line → List Line → List ℕ → List ℕ → Type 0
+IsOneMore header before after bytes rest =
+    (line : Line) × IsFaultless (numbers header) before line × (after ≡ before ++ line ∷ []) × (bytes ≡ line_text line ++ codes "\n" ++ rest)
+
+-- what is wrong with a line of this number and text behind these lines
+abbrev pub IsFormFault : Header → List Line → ℕ → List ℕ → TraceFault → Type 0
+IsFormFault header before number text f = (form : Option Line) × Forms header.version text form × (fault_of_form number header.trees before form ≡ Some f)

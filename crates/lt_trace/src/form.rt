@@ -1,0 +1,57 @@
+//! The forms of body lines.
+ghost use Rattle.std.specs.Prelude.{◌≡◌, ◌≢◌, ℕ, ◌<◌, ◌^◌, ◌++◌, ◌∷◌, Some, None, MatchOption, decimal};
+ghost use Rattle.lt_ranges.specs.Interval.{Interval};
+ghost use Rattle.lt_ranges.specs.KeyText.{range_text};
+ghost use Rattle.lt_trace.specs.declared.line.Line.{Line};
+ghost use Rattle.lt_trace.specs.declared.line.LineDeed.{LineDeed};
+ghost use Rattle.lt_trace.specs.Grammar.{Forms, IsDeedForm, IsRangeForm, deed_text};
+ghost use Rattle.lt_trace.specs.Reading.{Says, AreEnds};
+
+use crate::cut::{cut, strip};
+use crate::key_words::{Ends, read_ends};
+use crate::numbers::number;
+
+/// The greatest number of a transaction, and the greatest number that stands for a tree.
+pub const MOST_NUMBER: u64 = 999_999_999;
+
+/// What a body line asks for, before it is known to be faultless.
+#[derive(Clone, Copy)]
+pub(crate) enum Said {
+    Try { tree: u32, ends: Ends },
+    End,
+}
+
+/// The tree and the keys of a range: None where the text spells none.
+fn read_range(version: u32, text: &[u8]) -> Option<(u32, Ends)>
+    ensures { MatchOption result ((tree : ℕ) (range : Interval) → tree < 10 ^ 9 → IsRangeForm version range → text.now ≢ decimal tree ++ range_text range) (λ read. (range : Interval) × (read.0 < 10 ^ 9) × IsRangeForm version range × (text.now ≡ decimal read.0 ++ range_text range) × AreEnds read.1 range) }
+{
+    let (digits, keys) = cut(text, b' ')?;
+    let tree = number(digits, 0, MOST_NUMBER)?;
+    let ends = read_ends(version, keys)?;
+    Some((tree as u32, ends))
+}
+
+/// What stands behind a line's transaction and a space: None where it is none of the forms.
+fn read_deed(version: u32, text: &[u8]) -> Option<Said>
+    ensures { MatchOption result ((deed : LineDeed) → IsDeedForm version deed → 32 ∷ text.now ≢ deed_text deed) (λ said. (deed : LineDeed) × IsDeedForm version deed × (32 ∷ text.now ≡ deed_text deed) × Says said deed) }
+{
+    if let Some(range) = strip(text, b"try ") {
+        let (tree, ends) = read_range(version, range)?;
+        return Some(Said::Try { tree, ends });
+    }
+    if text == b"end".as_slice() {
+        Some(Said::End)
+    } else {
+        None
+    }
+}
+
+/// The transaction of a body line and what it asks for: None where the line has none of the forms.
+pub(crate) fn read_form(version: u32, text: &[u8]) -> Option<(u64, Said)>
+    ensures { MatchOption result (Forms version text.now None) (λ read. (line : Line) × Forms version text.now (Some line) × (read.0 ≡ line.txn) × Says read.1 line.deed) }
+{
+    let (digits, rest) = cut(text, b' ')?;
+    let txn = number(digits, 1, MOST_NUMBER)?;
+    let said = read_deed(version, rest)?;
+    Some((txn, said))
+}
