@@ -25,6 +25,7 @@ use Rattle.lt_forest.specs.Buffers.{PutsFirst, Begins, Appends, buffered_state, 
 use Rattle.lt_forest.proofs.SameRows.{times-++, one_here, one_equal, AgreeOn, on_left, on_right}
 use Rattle.lt_forest.proofs.Growing.{AllGrow, fill_leads}
 use Rattle.lt_forest.proofs.Chains.{total_has, chain_one, BeginsWith, cut_chain, join_chain, on_chain, on_run, on_owner, on_folded}
+use Rattle.lt_forest.proofs.StateLaws.{used_moves}
 use Rattle.lt_forest.proofs.ForestLaws.{TreeAt, as_tree, tree_represents, ChainAt, as_chain, at_most, one_place, changes_else, Moves, off, Regrows, regrown, regrown_forest, others_placed}
 
 -- no row of the tree has a gap
@@ -37,11 +38,13 @@ chain_gapless c g rows is q gap h = subst (λ (x : Growth). GapIn c x q gap) is 
 module _ {trees rows t : ℕ} {c d : Nodes} {mode mode' : ℕ → Mode} {state : List TreeState} {f : Forest} {after : TreeState} {moved : List ℕ}
     {growth : Growth} {pool : List ℕ} (forest : IsForest trees rows c mode state f)
     (grows : Regrows trees t c d mode mode' f after moved growth pool) (gapless : NoGaps c (f.tree t)) where
-  becomes : Becomes trees rows c d mode mode' (set state t after) f (λ q. ⊥)
-  becomes = record {
+  becomes : (gone come : ℕ) → length pool + come ≡ length f.pool + gone
+      → Becomes trees rows c d mode mode' state (set state t after) f (λ q. ⊥) gone come
+  becomes gone come pools = record {
     next = regrown f t growth pool;
     forest = regrown_forest forest grows;
     others = λ s q g score out seen. others_placed forest grows s q g score (λ e has. absurd (gapless q g has)) seen;
+    used_rows = used_moves gone come forest (regrown_forest forest grows) pools;
   }
 
 -- a row put first
@@ -104,8 +107,8 @@ module _ {trees rows t q txn count : ℕ} {range : Interval} {c d : Nodes} {mode
         omega arith;
   }
 
-  puts_first : Becomes trees rows c d mode mode' (set state t grant) f (λ q. ⊥)
-  puts_first = becomes forest grows buffer.gapless
+  puts_first : Becomes trees rows c d mode mode' state (set state t grant) f (λ q. ⊥) 0 1
+  puts_first = becomes forest grows buffer.gapless 0 1 (let k = ap (λ (l : List ℕ). length l) rest.is in omega arith)
 
 -- a buffer begins
 
@@ -155,8 +158,8 @@ module _ {trees rows t q txn : ℕ} {range : Interval} {c d : Nodes} {mode mode'
       ap (replied setting txn (Ask t range Buffered)) empty_state
       ∙ (λ i. Ask t range (if is_less 0 setting.plan.buffer begins.room i then Buffered else reply_by (others txn range [])))
 
-  pub begun : Becomes trees rows c d mode mode' (set state t (tree_after setting txn (Ask t range Buffered) (tree_at state t))) f (λ q. ⊥)
-  begun = subst (λ (s : TreeState). Becomes trees rows c d mode mode' (set state t s) f (λ q. ⊥)) (sym after_begin)
+  pub begun : Becomes trees rows c d mode mode' state (set state t (tree_after setting txn (Ask t range Buffered) (tree_at state t))) f (λ q. ⊥) 0 1
+  begun = subst (λ (s : TreeState). Becomes trees rows c d mode mode' state (set state t s) f (λ q. ⊥) 0 1) (sym after_begin)
       (puts_first forest tree no_buffer begins.puts begins.now only other_modes)
 
 -- a buffer gets one row more
@@ -194,8 +197,8 @@ module _ {trees rows t q txn count : ℕ} {range : Interval} {c d : Nodes} {mode
       ap (replied setting txn (Ask t range Buffered)) old_state
       ∙ (λ i. Ask t range (if fits i then Buffered else reply_by (others txn range (tree_at state t).pairs)))
 
-  pub appended : Becomes trees rows c d mode mode' (set state t (tree_after setting txn (Ask t range Buffered) (tree_at state t))) f (λ q. ⊥)
-  appended = subst (λ (s : TreeState). Becomes trees rows c d mode mode' (set state t s) f (λ q. ⊥)) (sym after_append)
+  pub appended : Becomes trees rows c d mode mode' state (set state t (tree_after setting txn (Ask t range Buffered) (tree_at state t))) f (λ q. ⊥) 0 1
+  appended = subst (λ (s : TreeState). Becomes trees rows c d mode mode' state (set state t s) f (λ q. ⊥) 0 1) (sym after_append)
       (puts_first forest tree old_buffer appends.puts appends.now only other_modes)
 
 -- a buffer ends
@@ -276,8 +279,12 @@ module _ {trees rows txn owner count : ℕ} {c d : Nodes} {mode mode' : ℕ → 
   pub end_replies : replied setting txn deed (tree_at state (tree_of deed)) ≡ deed
   end_replies = ap (replied setting txn deed) (sym buffered) ∙ ends.replies
 
-  pub ended : Becomes trees rows c d mode mode' (set state (tree_of deed) (tree_after setting txn deed (tree_at state (tree_of deed)))) f (λ q. ⊥)
-  ended = becomes forest regrows (chain_gapless c (f.tree t) ending.rows ending.is)
+  pub ended : Becomes trees rows c d mode mode' state (set state (tree_of deed) (tree_after setting txn deed (tree_at state (tree_of deed))))
+      f (λ q. ⊥) (length olds) (length (in_order (bare new)))
+  ended = becomes forest regrows (chain_gapless c (f.tree t) ending.rows ending.is) (length olds) (length (in_order (bare new)))
+      (let k = ap (λ (l : List ℕ). length l) unused.is in
+      let m = ends.all_rows in
+      omega (arith, length-append given unused.rest, length-append taken unused.rest))
 
 -- a buffer is dropped whole
 
@@ -350,8 +357,9 @@ module _ {trees rows t owner count last : ℕ} {c d : Nodes} {mode mode' : ℕ �
         ≡ Free t range first (length (folded owner c (front ++ last ∷ [])))
     drop_replies = end_replies forest tree ends_whole all_to_pool dropped_only other_modes
 
-    pub dropped : Becomes trees rows c d mode mode'
-        (set state t (tree_after setting owner (Free t range first (length (folded owner c (front ++ last ∷ [])))) (tree_at state t))) f (λ q. ⊥)
+    pub dropped : Becomes trees rows c d mode mode' state
+        (set state t (tree_after setting owner (Free t range first (length (folded owner c (front ++ last ∷ [])))) (tree_at state t)))
+        f (λ q. ⊥) (length (front ++ last ∷ [])) 0
     dropped = ended forest tree ends_whole all_to_pool dropped_only other_modes
 
 -- the owner of a buffer asks who holds

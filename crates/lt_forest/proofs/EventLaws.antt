@@ -76,7 +76,7 @@ module _ {trees rows : ℕ} {c d : Nodes} {mode mode' : ℕ → Mode} {state : L
       shows.mode ∙ (λ i. (tree_after setting txn deed (record { pairs = pairs_in c (bare cut); mode = full i })).mode) in
       at ∙ full_stays setting txn deed (pairs_in c (bare cut)) (subst IsTree at shows.is_tree)
 
-  pub event_relaid : Relaid trees rows c d mode mode' (set state (tree_of deed) (tree_after setting txn deed (tree_at state (tree_of deed))))
+  pub event_relaid : Relaid trees rows c d mode mode' state (set state (tree_of deed) (tree_after setting txn deed (tree_at state (tree_of deed))))
       f (tree_of deed) top cut new
   event_relaid =
       let after : TreeState → TreeState = tree_after setting txn deed in
@@ -98,8 +98,8 @@ module _ {trees rows : ℕ} {c d : Nodes} {mode mode' : ℕ → Mode} {state : L
 module _ {trees rows t : ℕ} {c d : Nodes} {mode : ℕ → Mode} {state : List TreeState} {f : Forest} {top : Top} {cut new : Cut}
     (part : IsPart trees rows c mode state f t top cut) (lays : Lays trees t top c d cut new [] [])
     (same : pairs_in d (bare new) ≡ pairs_in c (bare cut)) where
-  pub layout_relaid : Relaid trees rows c d mode mode state f t top cut new
-  layout_relaid = subst (λ (s : List TreeState). Relaid trees rows c d mode mode s f t top cut new) (set-get_or state t fresh)
+  pub layout_relaid : Relaid trees rows c d mode mode state state f t top cut new
+  layout_relaid = subst (λ (s : List TreeState). Relaid trees rows c d mode mode state s f t top cut new) (set-get_or state t fresh)
       (relaid part lays (record {
         is_tree = part.tree_mode;
         mode_is = part.forest.modes t part.tree;

@@ -29,3 +29,4 @@ pub mod WidenLaws
 pub mod LayoutLaws
 pub mod RotationLaws
 pub mod MiddleSteps
+pub mod ViewLessons

@@ -27,6 +27,7 @@ use Rattle.lt_forest.proofs.Growing.{AllGrow, links_grow, all_grow, fill_leads}
 use Rattle.lt_forest.proofs.TreeParts.{beside, beside_pairs, PartChange, shown_inside, hung_apart, beside_apart, gaps_stay, new_pairs, new_times, new_length, place_gap}
 use Rattle.lt_forest.proofs.Chains.{BeginsWith, cut_chain, join_chain, on_chain}
 use Rattle.lt_forest.proofs.ForestLaws.{tree_represents, one_place, Moves, off, put_here, Regrows, regrown, regrown_forest, others_placed}
+use Rattle.lt_forest.proofs.StateLaws.{used_moves}
 use Rattle.lt_forest.proofs.PartLaws.{known, at, hanging, filled, whole_is, placed, closed_at, rows_are, whole_pairs, part_lawful, part_fewer, part_finds}
 
 module _ {trees rows t : ℕ} {c d : Nodes} {mode : ℕ → Mode} {state : List TreeState} {f : Forest} {top : Top} {cut new : Cut}
@@ -169,7 +170,7 @@ module _ {trees rows t : ℕ} {c d : Nodes} {mode mode' : ℕ → Mode} {state :
         omega (arith, length-append given (rest part lays).rest, length-append taken (rest part lays).rest);
   }
 
-  pub relaid : Relaid trees rows c d mode mode' (set state t after) f t top cut new
+  pub relaid : Relaid trees rows c d mode mode' state (set state t after) f t top cut new
   relaid = record {
     becomes = record {
       next = regrown f t (search_tree tree') pool';
@@ -180,6 +181,10 @@ module _ {trees rows t : ℕ} {c d : Nodes} {mode mode' : ℕ → Mode} {state :
                 (subst (λ (x : Tree). HasGap c x None None q g) (whole_is part) (subst (λ (x : Growth). GapIn c x q g) (known part).is has)),
             remakes.full,
           )) seen;
+      used_rows = used_moves (length (in_order (bare cut))) (length (in_order (bare new))) part.forest (regrown_forest part.forest grows)
+          (let k = ap (λ (l : List ℕ). length l) (rest part lays).is in
+          let m = lays.rows.all in
+          omega (arith, length-append given (rest part lays).rest, length-append taken (rest part lays).rest));
     };
     gaps = λ q g b. subst (λ (x : Growth). GapIn d x q g) (sym (put_here f.tree t (search_tree tree')))
         (place_gap (placed part) changes q g

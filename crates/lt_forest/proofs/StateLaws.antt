@@ -83,6 +83,12 @@ module _ {trees rows : ℕ} {c : Nodes} {mode : ℕ → Mode} {state : List Tree
         k.count_is ∙ ap (λ (l : List ℕ). length l) same,
       )
 
+-- so the rows in use change as the pool does
+pub used_moves : {trees rows : ℕ} {c d : Nodes} {mode mode' : ℕ → Mode} {state after : List TreeState} {f next : Forest}
+    (gone come : ℕ) → IsForest trees rows c mode state f → IsForest trees rows d mode' after next
+    → length next.pool + come ≡ length f.pool + gone → used after + gone ≡ used state + come
+used_moves gone come forest forest' pools = let a = rows_add_up forest in let b = rows_add_up forest' in omega (arith, pools)
+
 -- the part below the anchor that is closed for the whole range shows all the tree's pairs
 pub whole_shows : {trees rows t : ℕ} {c : Nodes} {mode : ℕ → Mode} {state : List TreeState} {f : Forest} {cut : Cut}
     → IsPart trees rows c mode state f t from_anchor cut → IsClosedFor whole from_anchor c cut

@@ -61,7 +61,7 @@ module _ {has : ℕ → Type 0} {planned : List ℕ} {trees rows t q txn : ℕ} 
     puts = true_puts view these begins.puts;
   }
 
-  pub view_begun : Becomes trees rows c d mode mode' (set state t (tree_after setting txn (Ask t range Buffered) (tree_at state t))) f (λ q. ⊥)
+  pub view_begun : Becomes trees rows c d mode mode' state (set state t (tree_after setting txn (Ask t range Buffered) (tree_at state t))) f (λ q. ⊥) 0 1
   view_begun = begun forest tree true_begins (true_only view these begins.puts) other_modes
 
   pub view_begin_replies : replied setting txn (Ask t range Buffered) (tree_at state t) ≡ Ask t range Buffered
@@ -79,7 +79,7 @@ module _ {has : ℕ → Type 0} {planned : List ℕ} {trees rows t q txn count :
     puts = true_puts view these appends.puts;
   }
 
-  pub view_appended : Becomes trees rows c d mode mode' (set state t (tree_after setting txn (Ask t range Buffered) (tree_at state t))) f (λ q. ⊥)
+  pub view_appended : Becomes trees rows c d mode mode' state (set state t (tree_after setting txn (Ask t range Buffered) (tree_at state t))) f (λ q. ⊥) 0 1
   view_appended = appended forest tree true_appends (true_only view these appends.puts) other_modes
 
   pub view_append_replies : replied setting txn (Ask t range Buffered) (tree_at state t) ≡ Ask t range Buffered
@@ -134,7 +134,8 @@ module _ {has : ℕ → Type 0} {planned : List ℕ} {trees rows txn owner count
   ends_only : ChangesOnly (tree_of deed ∷ trees ∷ olds ++ taken) c d
   ends_only = planned_only (tree_of deed ∷ trees ∷ olds ++ taken) planned c d view.stays plan.only
 
-  pub view_ended : Becomes trees rows c d mode mode' (set state (tree_of deed) (tree_after setting txn deed (tree_at state (tree_of deed)))) f (λ q. ⊥)
+  pub view_ended : Becomes trees rows c d mode mode' state (set state (tree_of deed) (tree_after setting txn deed (tree_at state (tree_of deed))))
+      f (λ q. ⊥) (length olds) (length (in_order (bare new)))
   view_ended = ended forest tree true_ends (true_pool view plan.pool) ends_only other_modes
 
   pub view_end_replies : replied setting txn deed (tree_at state (tree_of deed)) ≡ deed
@@ -178,8 +179,9 @@ module _ {has : ℕ → Type 0} {planned : List ℕ} {trees rows t owner count l
   pairs_same = on_folded v c owner (front ++ last ∷ []) (chain_same t (front ++ last ∷ []) view.before whole_held)
 
   module _ (setting : Setting) (range : Interval) (first : Bool) (whole : is_whole range ≡ true) where
-    pub view_dropped : Becomes trees rows c d mode mode'
-        (set state t (tree_after setting owner (Free t range first (length (folded owner v (front ++ last ∷ [])))) (tree_at state t))) f (λ q. ⊥)
+    pub view_dropped : Becomes trees rows c d mode mode' state
+        (set state t (tree_after setting owner (Free t range first (length (folded owner v (front ++ last ∷ [])))) (tree_at state t)))
+        f (λ q. ⊥) (length (front ++ last ∷ [])) 0
     view_dropped = dropped forest tree true_drops drops_only other_modes setting range first whole
 
     pub view_drop_replies : replied setting owner (Free t range first (length (folded owner v (front ++ last ∷ [])))) (tree_at state t)

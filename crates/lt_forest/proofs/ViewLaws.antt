@@ -160,7 +160,7 @@ module _ {has : ℕ → Type 0} {planned : List ℕ} {trees rows : ℕ} {top : T
   view_part : IsPart trees rows c mode state f (tree_of deed) top cut
   view_part = true_part view.before plan.part forest sound tree view_deed.was_tree seen
 
-  pub view_relaid : Relaid trees rows c d mode mode' (set state (tree_of deed) (tree_after setting txn deed (tree_at state (tree_of deed))))
+  pub view_relaid : Relaid trees rows c d mode mode' state (set state (tree_of deed) (tree_after setting txn deed (tree_at state (tree_of deed))))
       f (tree_of deed) top cut new
   view_relaid = event_relaid view_part (true_lays view plan) (true_closed view.before plan.part closed) (true_deed view plan view_deed) other_modes
 
@@ -173,6 +173,6 @@ module _ {has : ℕ → Type 0} {planned : List ℕ} {trees rows t : ℕ} {top :
     {f : Forest} {cut new : Cut} (forest : IsForest trees rows c mode state f) (sound : AllSound state) (tree : t < trees)
     (tree_mode : IsTree (mode t)) (seen : IsSeen c (f.tree t) top) (view : IsView has planned v v' c d)
     (plan : PlanLays has planned trees t top v v' cut new [] []) (same : pairs_in v' (bare new) ≡ pairs_in v (bare cut)) where
-  pub view_settled : Relaid trees rows c d mode mode state f t top cut new
+  pub view_settled : Relaid trees rows c d mode mode state state f t top cut new
   view_settled = layout_relaid (true_part view.before plan.part forest sound tree tree_mode seen) (true_lays view plan)
       (sym (new_pairs view plan) ∙ (same ∙ true_pairs view.before plan.part))

@@ -6,7 +6,7 @@ use Rattle.lt_seq.specs.declared.event.Pair.{Pair}
 use Rattle.lt_seq.specs.declared.event.Mode.{Mode}
 use Rattle.lt_seq.specs.declared.event.Mode.TheVariants.{Tree as TreeMode, Buffer}
 use Rattle.lt_seq.specs.Pairs.{granted}
-use Rattle.lt_seq.specs.Table.{TreeState, tree_at}
+use Rattle.lt_seq.specs.Table.{TreeState, tree_at, used}
 use Rattle.lt_forest.specs.Counts.{times, total}
 use Rattle.lt_forest.specs.Bounds.{Gap}
 use Rattle.lt_forest.specs.Trees.{Tree, Nodes, LeadsTo, in_order, pairs_in, HasGap}
@@ -95,10 +95,12 @@ ChangesOnly rows c d = (r : ℕ) → times r rows ≡ 0 → c r ≡ d r
 abbrev pub KeepsModes : ℕ → (ℕ → Mode) → (ℕ → Mode) → Type 0
 KeepsModes t mode mode' = (s : ℕ) → s ≢ t → mode s ≡ mode' s
 
--- A forest of the table after, in which each row that isn't left keeps the gap that was seen for it.
-pub record Becomes (trees rows : ℕ) (c d : Nodes) (mode mode' : ℕ → Mode) (after : List TreeState) (f : Forest)
-    (IsLeft : ℕ → Type 0) : Type 0 where
+-- What a plan makes of a forest: one of the table after, in which each row that isn't left keeps the gap that was seen for
+-- it, and which has as many rows in use as before, less those that are gone and with those that came.
+pub record Becomes (trees rows : ℕ) (c d : Nodes) (mode mode' : ℕ → Mode) (state after : List TreeState) (f : Forest)
+    (IsLeft : ℕ → Type 0) (gone come : ℕ) : Type 0 where
   pub next : Forest
   pub forest : IsForest trees rows d mode' after next
   pub others : (s q : ℕ) (g : Gap) (score : ℕ) → (IsLeft q → ⊥)
       → IsPlaced trees c mode f s q g score → IsPlaced trees d mode' next s q g score
+  pub used_rows : used after + gone ≡ used state + come

@@ -15,3 +15,9 @@ pub mod Views
 pub mod Links
 pub mod Openings
 pub mod Widenings
+pub mod LawsOfGaps
+pub mod LawsOfParts
+pub mod LawsOfBuffers
+pub mod LawsOfRows
+pub mod LawsOfOrder
+pub mod LawsOfViews

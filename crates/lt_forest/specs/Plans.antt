@@ -109,7 +109,8 @@ pub data IsCovered (top : Top) (c : Nodes) (cut : Cut) (added : Pair → Type 0)
 
 -- What a plan makes of the whole table: a forest of the table after, in which rows that aren't of the part keep their gaps,
 -- and those of the new part have the gaps that its links give them.
-pub record Relaid (trees rows : ℕ) (c d : Nodes) (mode mode' : ℕ → Mode) (after : List TreeState) (f : Forest) (t : ℕ)
+pub record Relaid (trees rows : ℕ) (c d : Nodes) (mode mode' : ℕ → Mode) (state after : List TreeState) (f : Forest) (t : ℕ)
     (top : Top) (cut new : Cut) : Type 0 where
-  pub becomes : Becomes trees rows c d mode mode' after f (λ q. IsRow q cut)
+  pub becomes : Becomes trees rows c d mode mode' state after f (λ q. IsRow q cut)
+      (length (in_order (bare cut))) (length (in_order (bare new)))
   pub gaps : (q : ℕ) (g : Gap) → HasPartGap top new d q g → GapIn d (becomes.next.tree t) q g

@@ -1,6 +1,6 @@
 -- What a pass knows: the rows that it holds, as v shows them, and a plan, whose images v' shows in their place. For rows
 -- that it doesn't hold both say nothing.
-use Rattle.std.specs.Prelude.{◌≡◌, ℕ, ◌+◌, ◌<◌, List, [], ◌∷◌, ◌++◌, length}
+use Rattle.std.specs.Prelude.{◌≡◌, ℕ, ◌<◌, List, [], ◌∷◌, ◌++◌, None, Bool, IsTrue}
 use Rattle.lt_seq.specs.declared.event.Mode.{Mode}
 use Rattle.lt_seq.specs.declared.event.Mode.TheVariants.{Tree as TreeMode}
 use Rattle.lt_seq.specs.declared.event.Deed.{Deed}
@@ -12,7 +12,10 @@ use Rattle.lt_forest.specs.Bounds.{Gap}
 use Rattle.lt_forest.specs.Forest.{ChangesOnly}
 use Rattle.lt_forest.specs.Buffers.{Ends, Drops}
 use Rattle.lt_forest.specs.Plans.{Top, from_anchor, from_row, top_link, MovesPool, SameRows, ShowsDeed}
-use Rattle.std.specs.Prelude.{None}
+
+-- the rows that a test finds
+abbrev pub IsIn : (ℕ → Bool) → ℕ → Type 0
+IsIn test r = IsTrue (test r)
 
 -- the rows with this property hold what the view shows
 abbrev pub Agrees : (ℕ → Type 0) → Nodes → Nodes → Type 0

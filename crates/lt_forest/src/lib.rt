@@ -2,6 +2,7 @@
 //! table make up.
 #![tactic(auto)]
 
+pub mod laws;
 pub mod layout;
 pub mod part;
 pub mod rotation;
