@@ -30,3 +30,5 @@ pub mod LayoutLaws
 pub mod RotationLaws
 pub mod MiddleSteps
 pub mod ViewLessons
+pub mod WorkedTrees
+pub mod WorkedBuffer

@@ -21,3 +21,5 @@ pub mod LawsOfBuffers
 pub mod LawsOfRows
 pub mod LawsOfOrder
 pub mod LawsOfViews
+pub mod WorkedTrees
+pub mod WorkedBuffer

@@ -7,6 +7,7 @@ pub mod layout;
 pub mod part;
 pub mod rotation;
 pub mod search;
+pub mod worked;
 
 pub use layout::{Layout, lay_out};
 pub use part::{Part, PartRow, Placed, Visit};
