@@ -13,3 +13,6 @@ pub use layout::{Layout, lay_out};
 pub use part::{Part, PartRow, Placed, Visit};
 pub use rotation::{rotate_left, rotate_right};
 pub use search::visit;
+
+#[cfg(test)]
+mod tests;
