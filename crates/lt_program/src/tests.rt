@@ -7,6 +7,9 @@ use std::test::Fail;
 /// The header that stands before the lines of a table.
 const HEADER: &str = "rangelock 1\ntrees 1\nlimit 64\nbuffer 0\n";
 
+/// The same in the second version.
+const SECOND_HEADER: &str = "rangelock 2\ntrees 1\nlimit 64\nbuffer 0\n";
+
 /// A trace whose second transaction is held, and its transcript.
 const HELD_LINES: &str = "1 try 0 \"a\" \"c\"\n2 try 0 \"c\" \"e\"\n";
 
@@ -49,40 +52,42 @@ fn run_serial(alloc: Global, header: &str, lines: &str) -> Result<(u8, Vec<u8>),
     run_failing(alloc, "serial", input.as_str(), None, None)
 }
 
+/// What is shown, the lines of the body, and the transcript.
+const PLAYED: [(&str, &str, &str); 8] = [
+    ("an empty trace", "", "end 0 0\n"),
+    (
+        "a range is given back",
+        "1 try 0 \"a\" \"c\"\n1 end\n",
+        "0 1 ask 0 \"a\" \"c\" granted\n1 1 free 0 \"a\" \"c\" 1\ntxn 1 done\nend 2 0\n",
+    ),
+    ("a shared endpoint is refused", HELD_LINES, HELD_TEXT),
+    (
+        "own ranges are joined",
+        "1 try 0 \"a\" \"c\"\n1 try 0 \"b\" \"d\"\n1 end\n",
+        "0 1 ask 0 \"a\" \"c\" granted\n1 1 ask 0 \"b\" \"d\" granted\n2 1 free 0 \"a\" \"c\" 1\n3 1 free 0 \"b\" \"d\" 0\ntxn 1 done\nend 4 0\n",
+    ),
+    (
+        "infinities hold every key",
+        "1 try 0 - +\n2 try 0 \"\" \"\"\n",
+        "0 1 ask 0 - + granted\n1 2 ask 0 \"\" \"\" held by 1\n2 1 free 0 - + 1\ntxn 1 done\ntxn 2 done\nend 3 0\n",
+    ),
+    (
+        "above is a point",
+        "1 try 0 \"x\" +\n2 try 0 + +\n",
+        "0 1 ask 0 \"x\" + granted\n1 2 ask 0 + + held by 1\n2 1 free 0 \"x\" + 1\ntxn 1 done\ntxn 2 done\nend 3 0\n",
+    ),
+    (
+        "two owners are named",
+        "1 try 0 \"a\" \"a\"\n2 try 0 \"c\" \"c\"\n3 try 0 - +\n",
+        "0 1 ask 0 \"a\" \"a\" granted\n1 2 ask 0 \"c\" \"c\" granted\n2 3 ask 0 - + held by 1 2\n3 1 free 0 \"a\" \"a\" 1\n4 2 free 0 \"c\" \"c\" 1\ntxn 1 done\ntxn 2 done\ntxn 3 done\nend 5 0\n",
+    ),
+    ("an end alone", "7 end\n", "txn 7 done\nend 0 0\n"),
+];
+
 #[test]
 fn traces_are_played(rt: HostRuntime) -> Result<(), Fail> {
     let alloc = rt.alloc();
-    let rows = [
-        ("an empty trace", "", "end 0 0\n"),
-        (
-            "a range is given back",
-            "1 try 0 \"a\" \"c\"\n1 end\n",
-            "0 1 ask 0 \"a\" \"c\" granted\n1 1 free 0 \"a\" \"c\" 1\ntxn 1 done\nend 2 0\n",
-        ),
-        ("a shared endpoint is refused", HELD_LINES, HELD_TEXT),
-        (
-            "own ranges are joined",
-            "1 try 0 \"a\" \"c\"\n1 try 0 \"b\" \"d\"\n1 end\n",
-            "0 1 ask 0 \"a\" \"c\" granted\n1 1 ask 0 \"b\" \"d\" granted\n2 1 free 0 \"a\" \"c\" 1\n3 1 free 0 \"b\" \"d\" 0\ntxn 1 done\nend 4 0\n",
-        ),
-        (
-            "infinities hold every key",
-            "1 try 0 - +\n2 try 0 \"\" \"\"\n",
-            "0 1 ask 0 - + granted\n1 2 ask 0 \"\" \"\" held by 1\n2 1 free 0 - + 1\ntxn 1 done\ntxn 2 done\nend 3 0\n",
-        ),
-        (
-            "above is a point",
-            "1 try 0 \"x\" +\n2 try 0 + +\n",
-            "0 1 ask 0 \"x\" + granted\n1 2 ask 0 + + held by 1\n2 1 free 0 \"x\" + 1\ntxn 1 done\ntxn 2 done\nend 3 0\n",
-        ),
-        (
-            "two owners are named",
-            "1 try 0 \"a\" \"a\"\n2 try 0 \"c\" \"c\"\n3 try 0 - +\n",
-            "0 1 ask 0 \"a\" \"a\" granted\n1 2 ask 0 \"c\" \"c\" granted\n2 3 ask 0 - + held by 1 2\n3 1 free 0 \"a\" \"a\" 1\n4 2 free 0 \"c\" \"c\" 1\ntxn 1 done\ntxn 2 done\ntxn 3 done\nend 5 0\n",
-        ),
-        ("an end alone", "7 end\n", "txn 7 done\nend 0 0\n"),
-    ];
-    for (name, lines, text) in rows {
+    for (name, lines, text) in PLAYED {
         let (status, written) = run_serial(alloc, HEADER, lines)?;
         assert_eq!(rt; status, 0, "at {name}");
         assert_eq!(rt; written.as_slice(), text.as_bytes(), "at {name}");
@@ -90,24 +95,26 @@ fn traces_are_played(rt: HostRuntime) -> Result<(), Fail> {
     Ok(())
 }
 
+/// What is shown, the header, the lines of the body, and the transcript.
+const WITH_HEADERS: [(&str, &str, &str, &str); 2] = [
+    (
+        "the limit is one row",
+        "rangelock 1\ntrees 1\nlimit 1\nbuffer 0\n",
+        "1 try 0 \"a\" \"a\"\n2 try 0 \"c\" \"c\"\n",
+        "0 1 ask 0 \"a\" \"a\" granted\n1 1 free 0 \"a\" \"a\" 1\ntxn 1 done\ntxn 2 outoflocks 1 1\nend 2 0\n",
+    ),
+    (
+        "prefix endpoints in the second version",
+        SECOND_HEADER,
+        "1 try 0 \"ab\" \"ab\"*\n2 try 0 \"abz\" \"abz\"\n3 try 0 \"ac\" \"ac\"\n",
+        "0 1 ask 0 \"ab\" \"ab\"* granted\n1 2 ask 0 \"abz\" \"abz\" held by 1\n2 3 ask 0 \"ac\" \"ac\" granted\n3 1 free 0 \"ab\" \"ab\"* 1\n4 3 free 0 \"ac\" \"ac\" 1\ntxn 1 done\ntxn 2 done\ntxn 3 done\nend 5 0\n",
+    ),
+];
+
 #[test]
 fn headers_count(rt: HostRuntime) -> Result<(), Fail> {
     let alloc = rt.alloc();
-    let rows = [
-        (
-            "the limit is one row",
-            "rangelock 1\ntrees 1\nlimit 1\nbuffer 0\n",
-            "1 try 0 \"a\" \"a\"\n2 try 0 \"c\" \"c\"\n",
-            "0 1 ask 0 \"a\" \"a\" granted\n1 1 free 0 \"a\" \"a\" 1\ntxn 1 done\ntxn 2 outoflocks 1 1\nend 2 0\n",
-        ),
-        (
-            "prefix endpoints in the second version",
-            "rangelock 2\ntrees 1\nlimit 64\nbuffer 0\n",
-            "1 try 0 \"ab\" \"ab\"*\n2 try 0 \"abz\" \"abz\"\n3 try 0 \"ac\" \"ac\"\n",
-            "0 1 ask 0 \"ab\" \"ab\"* granted\n1 2 ask 0 \"abz\" \"abz\" held by 1\n2 3 ask 0 \"ac\" \"ac\" granted\n3 1 free 0 \"ab\" \"ab\"* 1\n4 3 free 0 \"ac\" \"ac\" 1\ntxn 1 done\ntxn 2 done\ntxn 3 done\nend 5 0\n",
-        ),
-    ];
-    for (name, header, lines, text) in rows {
+    for (name, header, lines, text) in WITH_HEADERS {
         let (status, written) = run_serial(alloc, header, lines)?;
         assert_eq!(rt; status, 0, "at {name}");
         assert_eq!(rt; written.as_slice(), text.as_bytes(), "at {name}");
@@ -115,31 +122,32 @@ fn headers_count(rt: HostRuntime) -> Result<(), Fail> {
     Ok(())
 }
 
+/// The header, the lines of the body, and the line that refuses them.
+const REFUSED: [(&str, &str, &str); 10] = [
+    (HEADER, "1 try 0 \"b\" \"a\"\n", "refused 5 7 backwards\n"),
+    (
+        HEADER,
+        "1 try 1 \"a\" \"a\"\n",
+        "refused 5 5 tree out of range\n",
+    ),
+    (HEADER, "1 end\n1 end\n", "refused 6 8 after end\n"),
+    (HEADER, "1 steal 0\n", "refused 5 2 bad line\n"),
+    (HEADER, "1 try 0 \"ab\"* \"ab\"\n", "refused 5 2 bad line\n"),
+    (
+        SECOND_HEADER,
+        "1 try 0 \"ab\"* \"ab\"\n",
+        "refused 5 7 backwards\n",
+    ),
+    (HEADER, "1 end", "refused 5 10 no final newline\n"),
+    ("", "", "refused 1 1 bad header\n"),
+    ("rangelock 1\n", "", "refused 2 1 bad header\n"),
+    ("rangelock 3\n", "", "refused 1 1 bad header\n"),
+];
+
 #[test]
 fn other_bytes_are_refused(rt: HostRuntime) -> Result<(), Fail> {
     let alloc = rt.alloc();
-    let second = "rangelock 2\ntrees 1\nlimit 64\nbuffer 0\n";
-    let rows = [
-        (HEADER, "1 try 0 \"b\" \"a\"\n", "refused 5 7 backwards\n"),
-        (
-            HEADER,
-            "1 try 1 \"a\" \"a\"\n",
-            "refused 5 5 tree out of range\n",
-        ),
-        (HEADER, "1 end\n1 end\n", "refused 6 8 after end\n"),
-        (HEADER, "1 steal 0\n", "refused 5 2 bad line\n"),
-        (HEADER, "1 try 0 \"ab\"* \"ab\"\n", "refused 5 2 bad line\n"),
-        (
-            second,
-            "1 try 0 \"ab\"* \"ab\"\n",
-            "refused 5 7 backwards\n",
-        ),
-        (HEADER, "1 end", "refused 5 10 no final newline\n"),
-        ("", "", "refused 1 1 bad header\n"),
-        ("rangelock 1\n", "", "refused 2 1 bad header\n"),
-        ("rangelock 3\n", "", "refused 1 1 bad header\n"),
-    ];
-    for (header, lines, line) in rows {
+    for (header, lines, line) in REFUSED {
         let (status, written) = run_serial(alloc, header, lines)?;
         assert_eq!(rt; status, 3, "for {line}");
         assert_eq!(rt; written.as_slice(), line.as_bytes(), "for {line}");
