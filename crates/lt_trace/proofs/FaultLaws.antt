@@ -1,5 +1,5 @@
 -- Bytes spell one trace or have one first fault, and never both.
-use Rattle.std.proofs.Common.{◌≡◌, ◌≢◌, ℕ, ◌+◌, ◌^◌, ◌<◌, ◌≤◌, ◌⊎◌, inl, inr, ⊎_elim, List, [], ◌∷◌, ◌++◌, Bool, true, false, nat_lt, cond, length, Option, Some, None, codes, decimal, sym, ap, subst, ◌∙◌, refl, lit<, lit≤, arith, append_assoc, length-append}
+use Rattle.std.proofs.Common.{◌≡◌, ℕ, ◌+◌, ◌^◌, ◌<◌, ◌≤◌, inl, inr, ⊎_elim, List, [], ◌∷◌, ◌++◌, Bool, true, false, nat_lt, cond, length, Option, Some, None, decimal, sym, ap, subst, ◌∙◌, refl, lit<, arith, length-append}
 use Rattle.std.specs.List.{AllByRecursion}
 use Rattle.std.specs.Option.{option_or}
 use Rattle.std.proofs.lemmas.Bool.Decides.{nat_tests}
@@ -9,10 +9,10 @@ use Rattle.lt_trace.specs.declared.fault.TraceFault.{TraceFault}
 use Rattle.lt_trace.specs.declared.fault.TraceFault.TheVariants as fault
 use Rattle.lt_trace.specs.declared.line.Line.{Line}
 use Rattle.lt_trace.specs.Trace.{TraceView}
-use Rattle.lt_trace.specs.Grammar.{HeaderForm, header_forms, header_line, next_form, TextLine, first_line, fault_of_text, fault_of_form, fault_of_deed, fault_of_turn, version_in, trees_in, line_text, IsForm, Forms, IsFaultless, Front, IsFront, front_text, whole, Spells, IsNoHeader, IsFirst, IsHeaderFault, IsBodyFault, HasFault, IsFirstFault}
+use Rattle.lt_trace.specs.Grammar.{HeaderForm, header_forms, header_line, next_form, TextLine, first_line, fault_of_text, fault_of_form, fault_of_deed, fault_of_turn, version_in, trees_in, line_text, Forms, IsFaultless, Front, front_text, whole, Spells, IsNoHeader, IsFirst, IsHeaderFault, IsBodyFault, HasFault, IsFirstFault}
 use Rattle.lt_trace.proofs.CutLaws.{first_line_cut}
 use Rattle.lt_trace.proofs.FormLaws.{line_once, line_lacks}
-use Rattle.lt_trace.proofs.FrontLaws.{IsPlain, plain_forms, header_lacks, HeaderMore, LineMore, GoesOn, front_split}
+use Rattle.lt_trace.proofs.FrontLaws.{IsPlain, plain_forms, header_lacks, GoesOn, front_split}
 
 -- What goes on has no fault there.
 

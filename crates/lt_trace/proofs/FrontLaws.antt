@@ -158,7 +158,7 @@ split_whole f g r s one other same e =
     (λ body. body_split f.header f.lines g.lines r s one.body body e) other.body
 
 -- where header lines come next, there is no body
-no_body : (header : List ℕ) (lines : List Line) (form : HeaderForm) → IsBody header lines → next_form header_forms header ≡ Some form → lines ≡ []
+pub no_body : (header : List ℕ) (lines : List Line) (form : HeaderForm) → IsBody header lines → next_form header_forms header ≡ Some form → lines ≡ []
 no_body header [] form body next = refl
 no_body header (line ∷ lines) form body next = let none = whole_header header line lines body in cc
 

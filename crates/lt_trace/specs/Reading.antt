@@ -14,7 +14,7 @@ use Rattle.lt_trace.specs.declared.form.Said.TheVariants as said
 use Rattle.lt_trace.specs.declared.fault.TraceFault.{TraceFault}
 use Rattle.lt_trace.specs.declared.line.Line.{Line}
 use Rattle.lt_trace.specs.declared.line.LineDeed.{LineDeed}
-use Rattle.lt_trace.specs.declared.line.LineDeed.TheVariants.{Try, Lock, End, Abort, Escalate, Big}
+use Rattle.lt_trace.specs.declared.line.LineDeed.TheVariants.{Try, End}
 use Rattle.lt_trace.specs.Grammar.{line_text, Forms, fault_of_form, Front, IsFront, IsFaultless, IsBodyFault}
 
 -- the numbers in their order

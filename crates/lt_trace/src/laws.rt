@@ -1,5 +1,5 @@
 //! Laws of the grammar.
-ghost use Rattle.std.specs.Prelude.{◌≡◌, ℕ, List, [], ◌∷◌, ◌++◌, length};
+ghost use Rattle.std.specs.Prelude.{◌≡◌, ℕ, ◌<◌, ◌≤◌, List, [], ◌∷◌, ◌++◌, length};
 ghost use Rattle.lt_trace.specs.declared.fault.TraceFault.{TraceFault};
 ghost use Rattle.lt_trace.specs.declared.line.Line.{Line};
 ghost use Rattle.lt_trace.specs.FaultRows.{FaultRows};
@@ -29,4 +29,10 @@ pub fn one_trace()
 /// Bytes have one first fault at the most.
 pub fn one_fault()
     ensures { (bytes : List ℕ) (one other : TraceFault) → IsFirstFault bytes one → IsFirstFault bytes other → one ≡ other }
+{}
+
+/// No trace is longer than 39,389,540 bytes, and of a longer text the first 39,389,541 bytes decide.
+pub fn first_bytes_decide()
+    ensures trace { (bytes : List ℕ) (trace : TraceView) → Spells bytes trace → length bytes < 39389541 }
+    ensures fault { (bytes more : List ℕ) (fault : TraceFault) → 39389541 ≤ length bytes → IsFirstFault bytes fault → IsFirstFault (bytes ++ more) fault }
 {}
