@@ -1,0 +1,191 @@
+-- What a pass holds and plans is true of the forest: plans for buffers.
+use Rattle.std.proofs.Common.{◌≡◌, ℕ, ◌+◌, ◌<◌, List, [], ◌∷◌, ◌++◌, length, Bool, true, set, refl, sym, ap, ◌∙◌, subst, arith}
+use Rattle.lt_ranges.specs.Interval.{Interval}
+use Rattle.lt_seq.specs.declared.event.Pair.{Pair}
+use Rattle.lt_seq.specs.declared.event.Mode.{Mode}
+use Rattle.lt_seq.specs.declared.event.Mode.TheVariants.{Buffer}
+use Rattle.lt_seq.specs.declared.event.Reply.TheVariants.{Buffered}
+use Rattle.lt_seq.specs.declared.event.Deed.{Deed}
+use Rattle.lt_seq.specs.declared.event.Deed.TheVariants.{Ask, Free}
+use Rattle.lt_seq.specs.Table.{Setting, TreeState, tree_at, tree_after, replied, tree_of, is_whole}
+use Rattle.lt_forest.specs.Counts.{times}
+use Rattle.lt_forest.specs.Trees.{Node, Nodes, in_order, pairs_in}
+use Rattle.lt_forest.specs.Cuts.{Cut, Shows, bare}
+use Rattle.lt_forest.specs.Forest.{Forest, IsChain, folded, IsForest, ChangesOnly, KeepsModes, Becomes}
+use Rattle.lt_forest.specs.Buffers.{PutsFirst, Begins, Appends, buffered_state, Ends, Drops}
+use Rattle.lt_forest.specs.Views.{Agrees, IsView, AllHeld, PlansThese, PlanEnds, PlanDrops}
+use Rattle.lt_forest.proofs.SameRows.{times-++, one_here, AgreeOn, on_right, on_pairs}
+use Rattle.lt_forest.proofs.Chains.{on_chain, on_folded}
+use Rattle.lt_forest.proofs.BufferLaws.{begun, begin_replies, appended, append_replies, ended, end_replies, dropped, drop_replies}
+use Rattle.lt_forest.proofs.ViewLaws.{on_cut, held_same, planned_only, true_pool}
+
+-- a row put first
+
+abbrev left : Node → ℕ
+left n = n.left
+
+module _ {has : ℕ → Type 0} {planned : List ℕ} {trees t q txn : ℕ} {range : Interval} {v v' c d : Nodes} (view : IsView has planned v v' c d)
+    (these : PlansThese has planned (t ∷ trees ∷ q ∷ [])) (puts : PutsFirst trees t q txn range v v') where
+  at_anchor : has t
+  at_anchor = these.held t (let o = one_here t in omega arith)
+
+  at_pool : has trees
+  at_pool = these.held trees (let o = one_here trees in omega arith)
+
+  at_row : has q
+  at_row = these.held q (let o = one_here q in omega arith)
+
+  true_puts : PutsFirst trees t q txn range c d
+  true_puts = record {
+    first_vacant = ap left (sym (view.before trees at_pool)) ∙ puts.first_vacant;
+    pool_link = ap left (sym (view.after trees at_pool)) ∙ (puts.pool_link ∙ ap left (view.before q at_row));
+    top = ap left (sym (view.after t at_anchor)) ∙ puts.top;
+    owner = ap (λ (n : Node). n.owner) (sym (view.after q at_row)) ∙ puts.owner;
+    range_is = ap (λ (n : Node). n.range) (sym (view.after q at_row)) ∙ puts.range_is;
+    next = ap left (sym (view.after q at_row)) ∙ (puts.next ∙ ap left (view.before t at_anchor));
+  }
+
+  true_only : ChangesOnly (t ∷ trees ∷ q ∷ []) c d
+  true_only = planned_only (t ∷ trees ∷ q ∷ []) planned c d view.stays these.only
+
+module _ {has : ℕ → Type 0} {planned : List ℕ} {trees rows t q txn : ℕ} {range : Interval} {v v' c d : Nodes} {mode mode' : ℕ → Mode}
+    {state : List TreeState} {f : Forest} {setting : Setting} (forest : IsForest trees rows c mode state f) (tree : t < trees)
+    (view : IsView has planned v v' c d) (these : PlansThese has planned (t ∷ trees ∷ q ∷ []))
+    (begins : Begins setting trees t q txn range v v' (mode t) (mode' t)) (other_modes : KeepsModes t mode mode') where
+  true_begins : Begins setting trees t q txn range c d (mode t) (mode' t)
+  true_begins = record {
+    room = begins.room;
+    was = begins.was;
+    empty = ap left (sym (view.before t (at_anchor view these begins.puts))) ∙ begins.empty;
+    now = begins.now;
+    puts = true_puts view these begins.puts;
+  }
+
+  pub view_begun : Becomes trees rows c d mode mode' state (set state t (tree_after setting txn (Ask t range Buffered) (tree_at state t))) f (λ q. ⊥) 0 1
+  view_begun = begun forest tree true_begins (true_only view these begins.puts) other_modes
+
+  pub view_begin_replies : replied setting txn (Ask t range Buffered) (tree_at state t) ≡ Ask t range Buffered
+  view_begin_replies = begin_replies forest tree true_begins (true_only view these begins.puts) other_modes
+
+module _ {has : ℕ → Type 0} {planned : List ℕ} {trees rows t q txn count : ℕ} {range : Interval} {v v' c d : Nodes} {mode mode' : ℕ → Mode}
+    {state : List TreeState} {f : Forest} {setting : Setting} (forest : IsForest trees rows c mode state f) (tree : t < trees)
+    (view : IsView has planned v v' c d) (these : PlansThese has planned (t ∷ trees ∷ q ∷ []))
+    (appends : Appends setting trees t q txn count range v v' (mode t) (mode' t)) (other_modes : KeepsModes t mode mode') where
+  true_appends : Appends setting trees t q txn count range c d (mode t) (mode' t)
+  true_appends = record {
+    room = appends.room;
+    was = appends.was;
+    now = appends.now;
+    puts = true_puts view these appends.puts;
+  }
+
+  pub view_appended : Becomes trees rows c d mode mode' state (set state t (tree_after setting txn (Ask t range Buffered) (tree_at state t))) f (λ q. ⊥) 0 1
+  view_appended = appended forest tree true_appends (true_only view these appends.puts) other_modes
+
+  pub view_append_replies : replied setting txn (Ask t range Buffered) (tree_at state t) ≡ Ask t range Buffered
+  view_append_replies = append_replies forest tree true_appends (true_only view these appends.puts) other_modes
+
+-- a chain that is held with its anchor
+
+module _ {has : ℕ → Type 0} {v c : Nodes} (t : ℕ) (rows : List ℕ) (agrees : Agrees has v c) (chain_held : AllHeld has (t ∷ rows)) where
+  pub chain_same : AgreeOn v c rows
+  chain_same = on_right v c (t ∷ []) rows (held_same has v c (t ∷ rows) agrees chain_held)
+
+  anchor_same : v t ≡ c t
+  anchor_same = agrees t (chain_held t (let o = one_here t in omega arith))
+
+  pub true_chain : IsChain v (v t).left rows → IsChain c (c t).left rows
+  true_chain shows = on_chain v c (c t).left rows chain_same (subst (λ (n : Node). IsChain v n.left rows) anchor_same shows)
+
+-- a buffer ends
+
+module _ {has : ℕ → Type 0} {planned : List ℕ} {trees rows txn owner count : ℕ} {v v' c d : Nodes} {mode mode' : ℕ → Mode} {state : List TreeState}
+    {f : Forest} {setting : Setting} {deed : Deed} {olds : List ℕ} {new : Cut} {taken given : List ℕ}
+    (forest : IsForest trees rows c mode state f) (tree : tree_of deed < trees) (view : IsView has planned v v' c d)
+    (plan : PlanEnds has planned setting trees txn owner count deed (tree_of deed) v v' (mode (tree_of deed)) (mode' (tree_of deed)) olds new taken given)
+    (other_modes : KeepsModes (tree_of deed) mode mode') where
+  olds_same : folded owner v olds ≡ folded owner c olds
+  olds_same = on_folded v c owner olds (chain_same (tree_of deed) olds view.before plan.chain_held)
+
+  news_same : AgreeOn v' d (in_order (bare new))
+  news_same = held_same has v' d (in_order (bare new)) view.after plan.new_held
+
+  abbrev at : List Pair → TreeState
+  at pairs = record { pairs = pairs; mode = Buffer owner count }
+
+  new_anchor : v' (tree_of deed) ≡ d (tree_of deed)
+  new_anchor = view.after (tree_of deed) (plan.chain_held (tree_of deed) (let o = one_here (tree_of deed) in omega arith))
+
+  true_ends : Ends setting txn owner count deed (tree_of deed) c d (mode (tree_of deed)) (mode' (tree_of deed)) olds new taken given
+  true_ends = record {
+    was = plan.ends.was;
+    is_tree = plan.ends.is_tree;
+    shows = true_chain (tree_of deed) olds view.before plan.chain_held plan.ends.shows;
+    shows_new = on_cut v' d (d (tree_of deed)).left new news_same (subst (λ (n : Node). Shows v' n.left new) new_anchor plan.ends.shows_new);
+    no_hangs = plan.ends.no_hangs;
+    each_row = plan.ends.each_row;
+    all_rows = plan.ends.all_rows;
+    pairs = sym (on_pairs v' d (in_order (bare new)) news_same)
+        ∙ (plan.ends.pairs ∙ ap (λ (l : List Pair). (tree_after setting txn deed (at l)).pairs) olds_same);
+    mode = plan.ends.mode ∙ ap (λ (l : List Pair). (tree_after setting txn deed (at l)).mode) olds_same;
+    replies = ap (λ (l : List Pair). replied setting txn deed (at l)) (sym olds_same) ∙ plan.ends.replies;
+  }
+
+  ends_only : ChangesOnly (tree_of deed ∷ trees ∷ olds ++ taken) c d
+  ends_only = planned_only (tree_of deed ∷ trees ∷ olds ++ taken) planned c d view.stays plan.only
+
+  pub view_ended : Becomes trees rows c d mode mode' state (set state (tree_of deed) (tree_after setting txn deed (tree_at state (tree_of deed))))
+      f (λ q. ⊥) (length olds) (length (in_order (bare new)))
+  view_ended = ended forest tree true_ends (true_pool view plan.pool) ends_only other_modes
+
+  pub view_end_replies : replied setting txn deed (tree_at state (tree_of deed)) ≡ deed
+  view_end_replies = end_replies forest tree true_ends (true_pool view plan.pool) ends_only other_modes
+
+-- a buffer is dropped whole
+
+module _ {has : ℕ → Type 0} {planned : List ℕ} {trees rows t owner count last : ℕ} {v v' c d : Nodes} {mode mode' : ℕ → Mode}
+    {state : List TreeState} {f : Forest} {front : List ℕ} (forest : IsForest trees rows c mode state f) (tree : t < trees)
+    (view : IsView has planned v v' c d)
+    (plan : PlanDrops has planned trees t owner count v v' (mode t) (mode' t) front last) (other_modes : KeepsModes t mode mode') where
+  abbrev olds : List ℕ
+  olds = front ++ last ∷ []
+
+  whole_held : AllHeld has (t ∷ front ++ last ∷ [])
+  whole_held r some = plan.chain_held r (omega arith)
+
+  pool_held : has trees
+  pool_held = plan.chain_held trees (let o = one_here trees in omega arith)
+
+  last_held : has last
+  last_held = plan.chain_held last (let o = one_here last in let a = times-++ last front (last ∷ []) in omega arith)
+
+  true_drops : Drops trees t owner count c d (mode t) (mode' t) front last
+  true_drops =
+      let left : Node → ℕ = λ n. n.left in
+      let anchor : has t = plan.chain_held t (let o = one_here t in omega arith) in
+      record {
+        was = plan.drops.was;
+        now = plan.drops.now;
+        shows = true_chain t (front ++ last ∷ []) view.before whole_held plan.drops.shows;
+        top = ap left (sym (view.after t anchor)) ∙ plan.drops.top;
+        pool_link = ap left (sym (view.after trees pool_held)) ∙ (plan.drops.pool_link ∙ ap left (view.before t anchor));
+        joint = ap left (sym (view.after last last_held)) ∙ (plan.drops.joint ∙ ap left (view.before trees pool_held));
+      }
+
+  drops_only : ChangesOnly (t ∷ trees ∷ last ∷ []) c d
+  drops_only = planned_only (t ∷ trees ∷ last ∷ []) planned c d view.stays plan.only
+
+  pairs_same : folded owner v (front ++ last ∷ []) ≡ folded owner c (front ++ last ∷ [])
+  pairs_same = on_folded v c owner (front ++ last ∷ []) (chain_same t (front ++ last ∷ []) view.before whole_held)
+
+  module _ (setting : Setting) (range : Interval) (first : Bool) (whole : is_whole range ≡ true) where
+    pub view_dropped : Becomes trees rows c d mode mode' state
+        (set state t (tree_after setting owner (Free t range first (length (folded owner v (front ++ last ∷ [])))) (tree_at state t)))
+        f (λ q. ⊥) (length (front ++ last ∷ [])) 0
+    view_dropped = dropped forest tree true_drops drops_only other_modes setting range first whole
+
+    pub view_drop_replies : replied setting owner (Free t range first (length (folded owner v (front ++ last ∷ [])))) (tree_at state t)
+        ≡ Free t range first (length (folded owner v (front ++ last ∷ [])))
+    view_drop_replies =
+        drop_replies forest tree true_drops drops_only other_modes setting range first whole
+        ∙ ap (λ (l : List Pair). Free t range first (length l)) (sym pairs_same)

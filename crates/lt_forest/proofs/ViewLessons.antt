@@ -1,0 +1,105 @@
+-- What a pass reads off its rows is true of the forest: gaps, links, pairs and chains.
+use Rattle.std.proofs.Common.{◌≡◌, ◌≢◌, ◌⊎◌, ℕ, ◌+◌, ◌<◌, List, ◌∷◌, length, Bool, true, sym, ap, ◌∙◌, subst}
+use Rattle.std.specs.Prelude.{None, Some}
+use Rattle.lt_ranges.specs.Interval.{Interval, overlap, whole}
+use Rattle.lt_seq.specs.declared.event.Pair.{Pair}
+use Rattle.lt_seq.specs.declared.event.Mode.{Mode}
+use Rattle.lt_seq.specs.declared.event.Mode.TheVariants.{Tree as TreeMode, Buffer}
+use Rattle.lt_seq.specs.Sound.{AllSound}
+use Rattle.lt_seq.specs.Table.{TreeState, tree_at, used}
+use Rattle.lt_forest.specs.Bounds.{Gap}
+use Rattle.lt_forest.specs.Changes.{Has}
+use Rattle.lt_forest.specs.Trees.{Node, Nodes, left_end, right_end, pairs_in}
+use Rattle.lt_forest.specs.Cuts.{Cut, bare}
+use Rattle.lt_forest.specs.Forest.{Forest, IsTree, IsChain, AllOf, folded, IsForest, IsPlaced}
+use Rattle.lt_forest.specs.Plans.{Top, from_anchor, IsSeen, IsClosedFor}
+use Rattle.lt_forest.specs.Links.{Slot, left_of, right_of, row_with, link_in, IsLinkOf, IsLink, Leads, by_link, and_on}
+use Rattle.lt_forest.specs.Views.{Agrees, AllHeld, HoldsPart}
+use Rattle.lt_forest.proofs.Chains.{on_folded, on_owner}
+use Rattle.lt_forest.proofs.PartLaws.{part_has, part_has_all}
+use Rattle.lt_forest.proofs.StateLaws.{vacant_there, chain_shows, whole_shows}
+use Rattle.lt_forest.proofs.GapLaws.{top_placed, left_placed, right_placed}
+use Rattle.lt_forest.proofs.LinkLaws.{link_names, links_apart, pool_apart}
+use Rattle.lt_forest.proofs.PathLaws.{none_back}
+use Rattle.lt_forest.proofs.SameRows.{AgreeOn}
+use Rattle.lt_forest.proofs.ViewLaws.{true_part, true_pairs, true_closed}
+use Rattle.lt_forest.proofs.ViewBuffers.{chain_same, true_chain}
+
+module _ {has : ℕ → Type 0} {v c : Nodes} {trees rows : ℕ} {mode : ℕ → Mode} {state : List TreeState} {f : Forest}
+    (forest : IsForest trees rows c mode state f) (agrees : Agrees has v c) where
+  pub top_read : (t r score : ℕ) → has t → t < trees → mode t ≡ TreeMode score → (v t).left ≡ r + 1
+      → IsPlaced trees c mode f t r (None, None) score
+  top_read t r score held lt is link =
+      top_placed forest t r score lt is (ap (λ (n : Node). n.left) (sym (agrees t held)) ∙ link)
+
+  pub left_read : (t p r : ℕ) (g : Gap) (score : ℕ) → has p → IsPlaced trees c mode f t p g score → (v p).left ≡ r + 1
+      → IsPlaced trees c mode f t r (g.0, left_end v p) score
+  left_read t p r g score held seen link =
+      subst (λ (n : Node). IsPlaced trees c mode f t r (g.0, Some n.range.left) score) (sym (agrees p held))
+      (left_placed forest t p r g score seen (ap (λ (n : Node). n.left) (sym (agrees p held)) ∙ link))
+
+  pub right_read : (t p r : ℕ) (g : Gap) (score : ℕ) → has p → IsPlaced trees c mode f t p g score → (v p).right ≡ r + 1
+      → IsPlaced trees c mode f t r (right_end v p, g.1) score
+  right_read t p r g score held seen link =
+      subst (λ (n : Node). IsPlaced trees c mode f t r (Some n.range.right, g.1) score) (sym (agrees p held))
+      (right_placed forest t p r g score seen (ap (λ (n : Node). n.right) (sym (agrees p held)) ∙ link))
+
+  pub same_link : (s : Slot) → has (row_with s) → link_in v s ≡ link_in c s
+  same_link (left_of r) held = ap (λ (n : Node). n.left) (agrees r held)
+  same_link (right_of r) held = ap (λ (n : Node). n.right) (agrees r held)
+
+  pub read_names : (s : Slot) → has (row_with s) → IsLink trees f s
+      → (link_in v s ≡ 0) ⊎ ((r : ℕ) × (link_in v s ≡ r + 1) × (trees < r) × (r < rows))
+  read_names s held link =
+      subst (λ (l : ℕ). (l ≡ 0) ⊎ ((r : ℕ) × (l ≡ r + 1) × (trees < r) × (r < rows))) (sym (same_link s held)) (link_names forest s link)
+
+  pub read_apart : (s l : Slot) (r : ℕ) → has (row_with s) → has (row_with l) → IsLink trees f s → IsLink trees f l → s ≢ l
+      → link_in v s ≡ r + 1 → link_in v l ≡ r + 1 → ⊥
+  read_apart s l r held held' one two ne is js =
+      links_apart forest s l r one two ne (sym (same_link s held) ∙ is) (sym (same_link l held') ∙ js)
+
+  -- a way along held rows is one of the forest
+  true_way : (t q r : ℕ) → Leads v (λ s. has (row_with s) × IsLinkOf (f.tree t) s) q r → Leads c (IsLinkOf (f.tree t)) q r
+  true_way t q r (by_link s x p is) = by_link s x p.1 (sym (same_link s p.0) ∙ is)
+  true_way t q r (and_on s x before p is) = and_on s x (true_way t q (row_with s) before) p.1 (sym (same_link s p.0) ∙ is)
+
+  pub read_back : (t q : ℕ) → t < trees → Leads v (λ s. has (row_with s) × IsLinkOf (f.tree t) s) q q → ⊥
+  read_back t q lt way = none_back forest t q lt (true_way t q q way)
+
+  pub read_pool_apart : (t q : ℕ) (g : Gap) (score : ℕ) → has trees → IsPlaced trees c mode f t q g score → (v trees).left ≡ q + 1 → ⊥
+  read_pool_apart t q g score held seen is =
+      pool_apart forest t q g score seen (ap (λ (n : Node). n.left) (sym (agrees trees held)) ∙ is)
+
+  pub read_vacant : has trees → used state + trees + 1 < rows → (q : ℕ) × ((v trees).left ≡ q + 1)
+  read_vacant held room =
+      let k = vacant_there forest room in
+      (k.0, ap (λ (n : Node). n.left) (agrees trees held) ∙ k.1)
+
+  pub read_chain : (t owner count : ℕ) (chain : List ℕ) → AllHeld has (t ∷ chain) → t < trees → mode t ≡ Buffer owner count
+      → IsChain v (v t).left chain
+      → (folded owner v chain ≡ (tree_at state t).pairs) × AllOf owner v chain × (count ≡ length chain)
+  read_chain t owner count chain held lt is shows =
+      let k = chain_shows forest t owner count chain lt is (true_chain t chain agrees held shows) in
+      let same = chain_same t chain agrees held in (
+        on_folded v c owner chain same ∙ k.0,
+        on_owner c v owner chain (λ q some. sym (same q some)) k.1,
+        k.2,
+      )
+
+module _ {has : ℕ → Type 0} {v c : Nodes} {trees rows t : ℕ} {mode : ℕ → Mode} {state : List TreeState} {f : Forest} {top : Top} {cut : Cut}
+    (forest : IsForest trees rows c mode state f) (sound : AllSound state) (tree : t < trees) (tree_mode : IsTree (mode t))
+    (seen : IsSeen c (f.tree t) top) (agrees : Agrees has v c) (part : HoldsPart has t top v cut) where
+  pub read_has : (p : Pair) → Has p (pairs_in v (bare cut)) → Has p (tree_at state t).pairs
+  read_has p h = part_has (true_part agrees part forest sound tree tree_mode seen) p (subst (Has p) (true_pairs agrees part) h)
+
+  pub read_has_all : (range : Interval) → IsClosedFor range top v cut → (p : Pair) → Has p (tree_at state t).pairs
+      → overlap p.range range ≡ true → Has p (pairs_in v (bare cut))
+  read_has_all range closed p h over =
+      subst (Has p) (sym (true_pairs agrees part))
+      (part_has_all (true_part agrees part forest sound tree tree_mode seen) (true_closed agrees part closed) p h over)
+
+pub read_whole : {has : ℕ → Type 0} {v c : Nodes} {trees rows t : ℕ} {mode : ℕ → Mode} {state : List TreeState} {f : Forest} {cut : Cut}
+    → IsForest trees rows c mode state f → AllSound state → t < trees → IsTree (mode t) → (agrees : Agrees has v c)
+    → HoldsPart has t from_anchor v cut → IsClosedFor whole from_anchor v cut → pairs_in v (bare cut) ≡ (tree_at state t).pairs
+read_whole forest sound tree tree_mode agrees part closed =
+    true_pairs agrees part ∙ whole_shows (true_part agrees part forest sound tree tree_mode tt) (true_closed agrees part closed)

@@ -1,0 +1,278 @@
+-- The worked plans.
+use Rattle.std.proofs.Common.{◌≡◌, inl, inr, ℕ, zero, suc, ◌+◌, ◌<◌, List, [], ◌∷◌, ◌++◌, map, Bool, true, refl, sym, ap, subst, arith, lit<, ne_eqb, eq-eqb}
+use Rattle.std.specs.Prelude.{codes, nat_eq, Some, None, if◌then◌else◌}
+use mathlib.Core.Logic.{dite}
+use native.Mathlib.Decide.{ℕ_discrete}
+use Rattle.lt_ranges.specs.declared.key.Key.TheVariants.{Bytes}
+use Rattle.lt_ranges.specs.Key.{key_le}
+use Rattle.lt_ranges.specs.Interval.{Interval, whole}
+use Rattle.lt_seq.specs.declared.event.Reply.TheVariants.{Granted}
+use Rattle.lt_seq.specs.declared.event.Deed.{Deed}
+use Rattle.lt_seq.specs.declared.event.Deed.TheVariants.{Ask, Free, Who, Join}
+use Rattle.lt_seq.specs.declared.event.Mode.TheVariants.{Tree as TreeMode}
+use Rattle.lt_seq.specs.Sound.{AllSound}
+use Rattle.lt_seq.specs.History.{after, IsLegal}
+use Rattle.lt_seq.specs.Table.{TreeState, tree_at, tree_after, replied, tree_of}
+use Rattle.lt_seq.proofs.LawfulLaws.{sound_history}
+use Rattle.lt_forest.specs.Counts.{one_if, times}
+use Rattle.lt_forest.specs.Trees.{Node, Nodes, in_order}
+use Rattle.lt_forest.specs.Cuts.{Cut, end, held, Shows, bare}
+use Rattle.lt_forest.specs.Forest.{Growth, search_tree, Represents, stands, IsForest, ChangesOnly}
+use Rattle.lt_forest.specs.Plans.{Top, from_anchor, from_row, IsPart, IsClosedFor, Lays, range_of, ShowsDeed}
+use Rattle.lt_forest.specs.WorkedTrees.{from_to, at, holds, leads, one_tree, four, four_tree, four_forest, tree_modes, four_state, four_events, with_images, Works, WorkedInsertion, WorkedMerge, WorkedRemoval, WorkedJoin, WorkedQuestion, WorkedRotation}
+use Rattle.lt_forest.proofs.VisitLaws.{visited_closed}
+use Rattle.lt_forest.proofs.WidenLaws.{widens}
+use Rattle.lt_forest.proofs.OrderLaws.{order_ends, order_rows, order_pairs}
+use Rattle.lt_forest.proofs.EventLaws.{event_relaid, deed_replies, layout_relaid}
+
+-- images change only their rows
+
+abbrev rows_of : List (ℕ × Node) → List ℕ
+rows_of is = map (λ i. i.0) is
+
+pub images_only : (c : Nodes) (is : List (ℕ × Node)) → ChangesOnly (rows_of is) c (with_images c is)
+images_only c [] r none = refl
+images_only c (i ∷ is) r none = dite (ℕ_discrete i.0 r)
+    (λ e. let o : one_if (nat_eq i.0 r) ≡ 1 = ap one_if (eq-eqb i.0 r e) in absurd (omega arith))
+    (λ ne.
+    let o : one_if (nat_eq i.0 r) ≡ 0 = ap one_if (ne_eqb i.0 r ne) in
+    let rest = images_only c is r (omega arith) in
+    subst (λ (b : Bool). c r ≡ (if b then i.1 else with_images c is r)) (sym (ne_eqb i.0 r ne)) rest)
+
+-- the forest of four rows
+
+abbrev AllFurther : List ℕ → Type 0
+AllFurther [] = Unit {0}
+AllFurther (x ∷ xs) = (1 < x) × (x < 9) × AllFurther xs
+
+among : (r : ℕ) (xs : List ℕ) → AllFurther xs → 0 < times r xs → (1 < r) × (r < 9)
+among r [] all some = absurd (omega (arith, some))
+among r (x ∷ xs) all some = dite (ℕ_discrete x r)
+    (λ e. subst (λ (n : ℕ). (1 < n) × (n < 9)) e (all.0, all.1))
+    (λ ne. let o : one_if (nat_eq x r) ≡ 0 = ap one_if (ne_eqb x r ne) in among r xs all.2 (omega arith))
+
+four_further : AllFurther (2 ∷ 4 ∷ 6 ∷ 5 ∷ 3 ∷ 7 ∷ 8 ∷ [])
+four_further =
+    (lit< tt, lit< tt, (lit< tt, lit< tt, (lit< tt, lit< tt, (lit< tt, lit< tt, (lit< tt, lit< tt, (lit< tt, lit< tt, (lit< tt, lit< tt, tt)))))))
+
+four_once : (r : ℕ) → 1 < r → r < 9 → stands 1 four_forest r ≡ 1
+four_once zero lo hi = absurd (omega arith)
+four_once (suc zero) lo hi = absurd (omega arith)
+four_once (suc (suc zero)) lo hi = refl
+four_once (suc (suc (suc zero))) lo hi = refl
+four_once (suc (suc (suc (suc zero)))) lo hi = refl
+four_once (suc (suc (suc (suc (suc zero))))) lo hi = refl
+four_once (suc (suc (suc (suc (suc (suc zero)))))) lo hi = refl
+four_once (suc (suc (suc (suc (suc (suc (suc zero))))))) lo hi = refl
+four_once (suc (suc (suc (suc (suc (suc (suc (suc zero)))))))) lo hi = refl
+four_once (suc (suc (suc (suc (suc (suc (suc (suc (suc r))))))))) lo hi = absurd (omega arith)
+
+only_zero : (P : ℕ → Type 0) → P 0 → (t : ℕ) → t < 1 → P t
+only_zero P at zero lt = at
+only_zero P at (suc t) lt = absurd (omega arith)
+
+pub four_is_forest : IsForest 1 9 four tree_modes four_state four_forest
+four_is_forest = record {
+  size = refl;
+  grown = only_zero (λ t. Represents four (four t).left (search_tree four_tree) (tree_at four_state t).pairs (TreeMode 100))
+      ((refl, (refl, refl, refl), (refl, refl, (refl, refl, refl))), refl);
+  modes = only_zero (λ t. TreeMode 100 ≡ (tree_at four_state t).mode) refl;
+  vacant = (refl, (refl, (refl, refl)));
+  once = four_once;
+  further = λ r some. among r (2 ∷ 4 ∷ 6 ∷ 5 ∷ 3 ∷ 7 ∷ 8 ∷ []) four_further (omega arith);
+  many = refl;
+}
+
+-- the history that led there is legal, so its table is sound
+
+four_legal : IsLegal one_tree four_events
+unfolding key_le
+four_legal = (
+  record { pass = lit< tt; tree = lit< tt; question = refl; replies = refl },
+  (
+    record { pass = lit< tt; tree = lit< tt; question = refl; replies = refl },
+    (
+      record { pass = lit< tt; tree = lit< tt; question = refl; replies = refl },
+      (record { pass = lit< tt; tree = lit< tt; question = refl; replies = refl }, tt),
+    ),
+  ),
+)
+
+four_after : after one_tree four_events ≡ four_state
+unfolding key_le
+four_after = refl
+
+four_sound : AllSound four_state
+four_sound = subst AllSound four_after (sound_history one_tree four_events four_legal)
+
+-- a part of it that hangs from the anchor
+four_part : (cut : Cut) → Shows four 5 cut → IsPart 1 9 four tree_modes four_state four_forest 0 from_anchor cut
+four_part cut shows = record { forest = four_is_forest; sound = four_sound; tree = lit< tt; tree_mode = tt; seen = tt; shows = shows }
+
+-- one plan after another
+
+pub insertion : WorkedInsertion
+unfolding key_le
+insertion =
+    let cut : Cut = held (end 0) 6 (end 6) in
+    let new : Cut = held (held (end 0) 3 (end 0)) 6 (end 6) in
+    let images : List (ℕ × Node) = (6, holds 1 (at (codes "t")) 4 6) ∷ (3, holds 2 (at (codes "p")) 0 0) ∷ (1, leads 8) ∷ [] in
+    let top : Top = from_row 6 (Some (Bytes (codes "m")), None) in
+    let deed : Deed = Ask 0 (at (codes "p")) Granted in
+    let part : IsPart 1 9 four tree_modes four_state four_forest 0 top cut = record {
+      forest = four_is_forest;
+      sound = four_sound;
+      tree = lit< tt;
+      tree_mode = tt;
+      seen = inr (inr (inl (refl, (refl, tt))));
+      shows = (refl, refl, refl);
+    } in
+    let lays : Lays 1 0 top four (with_images four images) cut new (3 ∷ []) [] = record {
+      shows = (refl, (refl, refl, refl), refl);
+      loose = (refl, refl, tt, tt);
+      pool = record { rest = 8; takes = (refl, refl); gives = refl };
+      rows = record { each = λ q. omega arith; all = refl };
+      link = refl;
+      others = λ r none. images_only four images r (omega arith);
+    } in
+    let closed : IsClosedFor (at (codes "p")) top four cut = record { in_gap = (refl, tt); aside = (inr refl, tt) } in
+    let shows : ShowsDeed one_tree 2 deed four (with_images four images) cut new (TreeMode 100) (TreeMode 100) = record {
+      was_tree = tt;
+      is_tree = tt;
+      pairs = refl;
+      mode = refl;
+      replies = refl;
+      question = refl;
+    } in
+    record { relaid = event_relaid part lays closed shows (λ s ne. refl); replies = deed_replies part lays closed shows (λ s ne. refl) }
+
+pub merge : WorkedMerge
+unfolding key_le
+merge =
+    let cut : Cut = held (held (end 0) 2 (end 0)) 4 (held (end 0) 6 (end 6)) in
+    let new : Cut = held (end 0) 4 (end 6) in
+    let range : Interval = from_to (codes "f") (codes "t") in
+    let images : List (ℕ × Node) = (4, holds 1 range 0 6) ∷ (2, leads 7) ∷ (6, leads 4) ∷ (1, leads 3) ∷ [] in
+    let deed : Deed = Ask 0 range Granted in
+    let part : IsPart 1 9 four tree_modes four_state four_forest 0 from_anchor cut =
+    four_part cut (refl, (refl, refl, refl), (refl, refl, refl)) in
+    let lays : Lays 1 0 from_anchor four (with_images four images) cut new [] (2 ∷ 6 ∷ []) = record {
+      shows = (refl, refl, refl);
+      loose = (refl, refl, tt, tt);
+      pool = record { rest = 4; takes = refl; gives = (refl, (refl, refl)) };
+      rows = record { each = λ q. omega arith; all = refl };
+      link = tt;
+      others = λ r none. images_only four images r (omega arith);
+    } in
+    let closed : IsClosedFor range from_anchor four cut = record { in_gap = tt; aside = (inr refl, tt) } in
+    let shows : ShowsDeed one_tree 1 deed four (with_images four images) cut new (TreeMode 100) (TreeMode 100) = record {
+      was_tree = tt;
+      is_tree = tt;
+      pairs = refl;
+      mode = refl;
+      replies = refl;
+      question = refl;
+    } in
+    record { relaid = event_relaid part lays closed shows (λ s ne. refl); replies = deed_replies part lays closed shows (λ s ne. refl) }
+
+pub removal : WorkedRemoval
+unfolding key_le
+removal =
+    let narrow : Cut = held (end 3) 4 (end 7) in
+    let cut : Cut = held (end 3) 4 (held (end 0) 6 (end 6)) in
+    let new : Cut = held (end 3) 6 (end 6) in
+    let images : List (ℕ × Node) = (0, leads 7) ∷ (6, holds 1 (at (codes "t")) 3 6) ∷ (4, leads 4) ∷ (1, leads 5) ∷ [] in
+    let deed : Deed = Free 0 (at (codes "m")) true 1 in
+    let part : IsPart 1 9 four tree_modes four_state four_forest 0 from_anchor cut = four_part cut (refl, refl, (refl, refl, refl)) in
+    let lays : Lays 1 0 from_anchor four (with_images four images) cut new [] (4 ∷ []) = record {
+      shows = (refl, refl, refl);
+      loose = (refl, tt, refl, (refl, refl, tt, tt));
+      pool = record { rest = 4; takes = refl; gives = (refl, refl) };
+      rows = record { each = λ q. omega arith; all = refl };
+      link = tt;
+      others = λ r none. images_only four images r (omega arith);
+    } in
+    let closed : IsClosedFor (at (codes "m")) from_anchor four cut = record { in_gap = tt; aside = (inl refl, (inr refl, tt)) } in
+    let shows : ShowsDeed one_tree 1 deed four (with_images four images) cut new (TreeMode 100) (TreeMode 100) = record {
+      was_tree = tt;
+      is_tree = tt;
+      pairs = refl;
+      mode = refl;
+      replies = refl;
+      question = refl;
+    } in
+    record {
+      widened = widens four 5 narrow 6 (3 ∷ []) [] (refl, refl, refl) refl;
+      works = record { relaid = event_relaid part lays closed shows (λ s ne. refl); replies = deed_replies part lays closed shows (λ s ne. refl) };
+    }
+
+pub join : WorkedJoin
+unfolding key_le
+join =
+    let cut : Cut = held (held (end 0) 2 (end 0)) 4 (held (end 0) 6 (held (end 0) 5 (end 0))) in
+    let new : Cut = held (end 0) 4 (held (end 0) 5 (end 0)) in
+    let range : Interval = from_to (codes "f") (codes "t") in
+    let images : List (ℕ × Node) = (4, holds 1 range 0 6) ∷ (2, leads 7) ∷ (6, leads 4) ∷ (1, leads 3) ∷ [] in
+    let deed : Deed = Join 0 4 2 in
+    let part : IsPart 1 9 four tree_modes four_state four_forest 0 from_anchor cut =
+    four_part cut (refl, (refl, refl, refl), (refl, refl, (refl, refl, refl))) in
+    let lays : Lays 1 0 from_anchor four (with_images four images) cut new [] (2 ∷ 6 ∷ []) = record {
+      shows = (refl, refl, (refl, refl, refl));
+      loose = tt;
+      pool = record { rest = 4; takes = refl; gives = (refl, (refl, refl)) };
+      rows = record { each = λ q. omega arith; all = refl };
+      link = tt;
+      others = λ r none. images_only four images r (omega arith);
+    } in
+    let closed : IsClosedFor whole from_anchor four cut = record { in_gap = tt; aside = tt } in
+    let shows : ShowsDeed one_tree 2 deed four (with_images four images) cut new (TreeMode 100) (TreeMode 100) = record {
+      was_tree = tt;
+      is_tree = tt;
+      pairs = refl;
+      mode = refl;
+      replies = refl;
+      question = tt;
+    } in
+    record { relaid = event_relaid part lays closed shows (λ s ne. refl); replies = deed_replies part lays closed shows (λ s ne. refl) }
+
+pub question : WorkedQuestion
+unfolding key_le
+question =
+    let cut : Cut = held (held (end 0) 2 (end 0)) 4 (end 7) in
+    let range : Interval = from_to (codes "a") (codes "g") in
+    let deed : Deed = Who 0 range 2 (1 ∷ []) in
+    let part : IsPart 1 9 four tree_modes four_state four_forest 0 from_anchor cut = four_part cut (refl, (refl, refl, refl), refl) in
+    let lays : Lays 1 0 from_anchor four four cut cut [] [] = record {
+      shows = (refl, (refl, refl, refl), refl);
+      loose = (refl, refl, tt, tt);
+      pool = record { rest = 4; takes = refl; gives = refl };
+      rows = record { each = λ q. refl; all = refl };
+      link = tt;
+      others = λ r none. refl;
+    } in
+    let closed : IsClosedFor range from_anchor four cut = visited_closed part range tt (λ goes. (λ low. refl, λ high. refl), λ goes. cc) in
+    let shows : ShowsDeed one_tree 2 deed four four cut cut (TreeMode 100) (TreeMode 100) = record {
+      was_tree = tt;
+      is_tree = tt;
+      pairs = refl;
+      mode = refl;
+      replies = refl;
+      question = refl;
+    } in
+    record { relaid = event_relaid part lays closed shows (λ s ne. refl); replies = deed_replies part lays closed shows (λ s ne. refl) }
+
+pub rotation : WorkedRotation
+unfolding key_le
+rotation =
+    let cut : Cut = held (held (end 0) 2 (end 0)) 4 (end 7) in
+    let new : Cut = held (end 0) 2 (held (end 0) 4 (end 7)) in
+    let images : List (ℕ × Node) = (0, leads 3) ∷ (2, holds 1 (at (codes "f")) 0 5) ∷ (4, holds 1 (at (codes "m")) 0 7) ∷ [] in
+    let lays : Lays 1 0 from_anchor four (with_images four images) cut new [] [] = record {
+      shows = (refl, refl, (refl, refl, refl));
+      loose = order_ends four (with_images four images) cut new refl refl;
+      pool = record { rest = 4; takes = refl; gives = refl };
+      rows = order_rows four (with_images four images) cut new refl;
+      link = tt;
+      others = λ r none. images_only four images r (omega arith);
+    } in
+    layout_relaid (four_part cut (refl, (refl, refl, refl), refl)) lays (order_pairs four (with_images four images) cut new refl)

@@ -1,0 +1,12 @@
+use Rattle.lt_forest.proofs.WorkedTrees.{insertion, merge, removal, join, question, rotation}
+use Rattle.lt_forest.proofs.worked.worked_trees.Goals as goal
+
+pub returns : goal.returns
+returns c = record {
+  insertion = insertion;
+  merge = merge;
+  removal = removal;
+  join = join;
+  question = question;
+  rotation = rotation;
+}

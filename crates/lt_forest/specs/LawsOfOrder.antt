@@ -1,0 +1,50 @@
+-- What is true of parts in key order, so that a plan can be made from its rows and hangs alone.
+use Rattle.std.specs.Prelude.{◌≡◌, ℕ, ◌+◌, List, [], ◌∷◌, ◌++◌, None, Bool}
+use Rattle.lt_ranges.specs.Interval.{Interval}
+use Rattle.lt_forest.specs.declared.part.PartRow.{PartRow}
+use Rattle.lt_forest.specs.declared.part.Placed.{Placed}
+use Rattle.lt_forest.specs.Bounds.{Bound}
+use Rattle.lt_forest.specs.Trees.{Nodes, pairs_in}
+use Rattle.lt_forest.specs.Cuts.{Cut, Shows, bare, ends, Looser, AllAside}
+use Rattle.lt_forest.specs.Parts.{rows_of, hangs_of, hanging}
+use Rattle.lt_forest.specs.Items.{Item, items, rows_only, between, sift, Ascends, MayMerge}
+use Rattle.lt_forest.specs.Layouts.{IsLaid, HoldsPlaced}
+use Rattle.lt_forest.specs.Plans.{SameRows}
+use Rattle.lt_forest.specs.Widenings.{Widens}
+
+-- the links that hang, and their bounds, are those between the rows in key order
+abbrev pub EndsAreHanging : Type 0
+EndsAreHanging = (c : Nodes) (cut : Cut) (x y : Bound) → ends c cut x y ≡ hanging (rows_of c cut) (hangs_of cut) x y
+
+abbrev pub EndsAreBetween : Type 0
+EndsAreBetween = (c : Nodes) (cut : Cut) → ends c cut None None ≡ between (items (rows_of c cut) (hangs_of cut)) None None
+
+-- cuts of the same rows and hangs in key order leave all bounds, rows and pairs as they are
+abbrev pub SameOrderKeeps : Type 0
+SameOrderKeeps =
+    (c d : Nodes) (cut new : Cut) → rows_of d new ≡ rows_of c cut → hangs_of new ≡ hangs_of cut
+    → Looser (ends c cut None None) (ends d new None None) × SameRows cut new [] []
+    × (pairs_in d (bare new) ≡ pairs_in c (bare cut))
+
+-- where rows are left out, no bound gets tighter
+abbrev pub LeavingOutLoosens : Type 0
+LeavingOutLoosens =
+    (keep : PartRow → Bool) (is : List Item) → Ascends None is → Looser (between is None None) (between (sift keep is) None None)
+
+-- and none where a run of rows becomes one, if all that hangs is aside of the range
+abbrev pub MergingLoosens : Type 0
+MergingLoosens =
+    (range : Interval) (ahead : List Item) (run : List PartRow) (behind : List Item) (one : PartRow)
+    → MayMerge range ahead run behind one → AllAside range (between (ahead ++ (rows_only run ++ behind)) None None)
+    → Looser (between (ahead ++ (rows_only run ++ behind)) None None) (between (ahead ++ (rows_only (one ∷ []) ++ behind)) None None)
+
+-- the top row of what hangs at a place may be taken into the part
+abbrev pub PartWidens : Type 0
+PartWidens =
+    (c : Nodes) (link : ℕ) (cut : Cut) (r : ℕ) (before behind : List ℕ) → Shows c link cut
+    → hangs_of cut ≡ before ++ (r + 1) ∷ behind → Widens c link cut r before behind
+
+-- rows that hold what was laid out show it
+abbrev pub PlacedShows : Type 0
+PlacedShows =
+    (d : Nodes) (placed : List Placed) (link : ℕ) (cut : Cut) → HoldsPlaced d placed → IsLaid placed link cut → Shows d link cut

@@ -1,0 +1,90 @@
+-- What is true of the rows of a forest as a whole, and of the links between them.
+use Rattle.std.specs.Prelude.{◌≡◌, ◌≢◌, ◌⊎◌, ℕ, ◌+◌, ◌<◌, List, length, replicate}
+use Rattle.lt_seq.specs.declared.event.Mode.{Mode}
+use Rattle.lt_seq.specs.declared.event.Mode.TheVariants.{Tree as TreeMode, Buffer}
+use Rattle.lt_seq.specs.Table.{TreeState, fresh, used}
+use Rattle.lt_forest.specs.Counts.{times}
+use Rattle.lt_forest.specs.Bounds.{Gap}
+use Rattle.lt_forest.specs.Trees.{Nodes, in_order}
+use Rattle.lt_forest.specs.Cuts.{Cut, bare}
+use Rattle.lt_forest.specs.Forest.{Forest, chain, IsRun, IsForest, IsPlaced}
+use Rattle.lt_forest.specs.Plans.{Top, IsPart}
+use Rattle.lt_forest.specs.Links.{Slot, left_of, right_of, link_in, IsLinkOf, IsLink, Leads}
+use Rattle.lt_forest.specs.Openings.{IsOpening, opening_forest}
+
+-- rows in use, rows of the pool and anchors are all the rows
+abbrev pub RowsAddUp : Type 0
+RowsAddUp =
+    (trees rows : ℕ) (c : Nodes) (mode : ℕ → Mode) (state : List TreeState) (f : Forest)
+    → IsForest trees rows c mode state f → used state + length f.pool + trees + 1 ≡ rows
+
+-- where not all are in use, the pool's anchor leads to a row
+abbrev pub VacantIsThere : Type 0
+VacantIsThere =
+    (trees rows : ℕ) (c : Nodes) (mode : ℕ → Mode) (state : List TreeState) (f : Forest)
+    → IsForest trees rows c mode state f → used state + trees + 1 < rows → (q : ℕ) × ((c trees).left ≡ q + 1)
+
+-- at the start no row is in use
+abbrev pub OpeningIsForest : Type 0
+OpeningIsForest =
+    (trees rows : ℕ) (c : Nodes) → IsOpening trees rows c
+    → IsForest trees rows c (λ t. TreeMode 100) (replicate trees fresh) (opening_forest trees rows)
+
+-- each link is 0 or names a further row
+abbrev pub LinksNameFurther : Type 0
+LinksNameFurther =
+    (trees rows : ℕ) (c : Nodes) (mode : ℕ → Mode) (state : List TreeState) (f : Forest) (s : Slot)
+    → IsForest trees rows c mode state f → IsLink trees f s
+    → (link_in c s ≡ 0) ⊎ ((r : ℕ) × (link_in c s ≡ r + 1) × (trees < r) × (r < rows))
+
+-- no row is named by two of them
+abbrev pub NoneIsNamedTwice : Type 0
+NoneIsNamedTwice =
+    (trees rows : ℕ) (c : Nodes) (mode : ℕ → Mode) (state : List TreeState) (f : Forest) (s l : Slot) (r : ℕ)
+    → IsForest trees rows c mode state f → IsLink trees f s → IsLink trees f l → s ≢ l
+    → link_in c s ≡ r + 1 → link_in c l ≡ r + 1 → ⊥
+
+-- no row of a tree leads back to itself,
+abbrev pub NoneLeadsBack : Type 0
+NoneLeadsBack =
+    (trees rows : ℕ) (c : Nodes) (mode : ℕ → Mode) (state : List TreeState) (f : Forest) (t q : ℕ)
+    → IsForest trees rows c mode state f → t < trees → Leads c (IsLinkOf (f.tree t)) q q → ⊥
+
+-- and none of the pool
+abbrev pub NoneOfPoolLeadsBack : Type 0
+NoneOfPoolLeadsBack =
+    (trees rows : ℕ) (c : Nodes) (mode : ℕ → Mode) (state : List TreeState) (f : Forest) (q : ℕ)
+    → IsForest trees rows c mode state f → Leads c (IsLinkOf (chain f.pool)) q q → ⊥
+
+-- the pool's anchor names no row with a gap
+abbrev pub PoolIsApart : Type 0
+PoolIsApart =
+    (trees rows : ℕ) (c : Nodes) (mode : ℕ → Mode) (state : List TreeState) (f : Forest) (t q : ℕ) (g : Gap) (score : ℕ)
+    → IsForest trees rows c mode state f → IsPlaced trees c mode f t q g score → (c trees).left ≡ q + 1 → ⊥
+
+-- Whose links these are: those of a row with a gap,
+abbrev pub GapRowsAreLinked : Type 0
+GapRowsAreLinked =
+    (trees rows : ℕ) (c : Nodes) (mode : ℕ → Mode) (state : List TreeState) (f : Forest) (t q : ℕ) (g : Gap) (score : ℕ)
+    → IsForest trees rows c mode state f → IsPlaced trees c mode f t q g score
+    → IsLinkOf (f.tree t) (left_of q) × IsLinkOf (f.tree t) (right_of q)
+
+-- of each row of a part,
+abbrev pub PartRowsAreLinked : Type 0
+PartRowsAreLinked =
+    (trees rows : ℕ) (c : Nodes) (mode : ℕ → Mode) (state : List TreeState) (f : Forest) (t : ℕ) (top : Top) (cut : Cut) (q : ℕ)
+    → IsPart trees rows c mode state f t top cut → 0 < times q (in_order (bare cut))
+    → IsLinkOf (f.tree t) (left_of q) × IsLinkOf (f.tree t) (right_of q)
+
+-- and the left one of each row along which an anchor leads in Buffer mode, or the pool's anchor
+abbrev pub RunRowsAreLinked : Type 0
+RunRowsAreLinked =
+    (trees rows : ℕ) (c : Nodes) (mode : ℕ → Mode) (state : List TreeState) (f : Forest) (t owner count last q : ℕ) (run : List ℕ)
+    → IsForest trees rows c mode state f → t < trees → mode t ≡ Buffer owner count → IsRun c (c t).left run last
+    → 0 < times q run → IsLinkOf (f.tree t) (left_of q)
+
+abbrev pub PoolRowsAreLinked : Type 0
+PoolRowsAreLinked =
+    (trees rows : ℕ) (c : Nodes) (mode : ℕ → Mode) (state : List TreeState) (f : Forest) (last q : ℕ) (run : List ℕ)
+    → IsForest trees rows c mode state f → IsRun c (c trees).left run last → 0 < times q run
+    → IsLinkOf (chain f.pool) (left_of q)

@@ -1,0 +1,136 @@
+-- Worked plans on a small table: one tree with four rows, and three rows in the pool. Transaction 1 holds "f", "m" and "t",
+-- transaction 2 holds "x".
+use Rattle.std.specs.Prelude.{◌≡◌, ℕ, List, [], ◌∷◌, map, codes, true, slice_index_or, nat_eq, if◌then◌else◌, Some, None}
+use Rattle.lt_ranges.specs.declared.key.Key.TheVariants.{Bytes}
+use Rattle.lt_ranges.specs.Interval.{Interval, whole}
+use Rattle.lt_seq.specs.declared.event.Pair.{Pair}
+use Rattle.lt_seq.specs.declared.event.Mode.{Mode}
+use Rattle.lt_seq.specs.declared.event.Mode.TheVariants.{Tree as TreeMode}
+use Rattle.lt_seq.specs.declared.event.Reply.TheVariants.{Granted}
+use Rattle.lt_seq.specs.declared.event.Deed.{Deed}
+use Rattle.lt_seq.specs.declared.event.Deed.TheVariants.{Ask, Free, Who, Join}
+use Rattle.lt_seq.specs.declared.event.Event.{Event}
+use Rattle.lt_seq.specs.Table.{Setting, TreeState, tree_at, tree_after, replied}
+use Rattle.lt_forest.specs.Trees.{Node, Tree, leaf, node, Nodes}
+use Rattle.lt_forest.specs.Cuts.{Cut, end, held}
+use Rattle.lt_forest.specs.Forest.{Forest, search_tree}
+use Rattle.lt_forest.specs.Widenings.{Widens}
+use Rattle.lt_forest.specs.Plans.{Top, from_anchor, from_row, Relaid}
+
+-- the range from one text to another, and that of one text alone
+abbrev pub from_to : List ℕ → List ℕ → Interval
+from_to a b = record { left = Bytes a; right = Bytes b }
+
+abbrev pub at : List ℕ → Interval
+at a = from_to a a
+
+abbrev pub pair : ℕ → Interval → Pair
+pair owner range = record { owner = owner; range = range }
+
+abbrev pub holds : ℕ → Interval → ℕ → ℕ → Node
+holds owner range left right = record { owner = owner; range = range; left = left; right = right }
+
+-- an anchor or a vacant row, of which only the left link counts
+abbrev pub leads : ℕ → Node
+leads left = holds 0 whole left 0
+
+abbrev pub nodes_in : List Node → Nodes
+nodes_in list r = slice_index_or list r (leads 0)
+
+-- the table
+
+abbrev pub one_tree : Setting
+one_tree = record { plan = record { trees = 1; limit = 6; buffer = 0; passes = 1; first = 0 }; marks = [] }
+
+-- the anchor leads to row 4, below which stand rows 2 and 6, and row 5 below row 6; the pool has rows 3, 7 and 8
+abbrev pub four : Nodes
+four = nodes_in (
+    leads 5 ∷ leads 4 ∷ holds 1 (at (codes "f")) 0 0 ∷ leads 8 ∷ holds 1 (at (codes "m")) 3 7 ∷ holds 2 (at (codes "x")) 0 0
+    ∷ holds 1 (at (codes "t")) 0 6 ∷ leads 9 ∷ leads 0 ∷ [])
+
+abbrev pub four_tree : Tree
+four_tree = node (node leaf 2 leaf) 4 (node leaf 6 (node leaf 5 leaf))
+
+abbrev pub four_forest : Forest
+four_forest = record { tree = λ t. search_tree four_tree; pool = 3 ∷ 7 ∷ 8 ∷ [] }
+
+abbrev pub tree_modes : ℕ → Mode
+tree_modes t = TreeMode 100
+
+abbrev pub table_of : List Pair → List TreeState
+table_of pairs = record { pairs = pairs; mode = TreeMode 100 } ∷ []
+
+abbrev pub four_state : List TreeState
+four_state = table_of (pair 1 (at (codes "f")) ∷ pair 1 (at (codes "m")) ∷ pair 1 (at (codes "t")) ∷ pair 2 (at (codes "x")) ∷ [])
+
+-- the history that led there
+abbrev pub four_events : List Event
+four_events =
+    record { pass = 0; txn = 1; deed = Ask 0 (at (codes "m")) Granted }
+    ∷ record { pass = 0; txn = 2; deed = Ask 0 (at (codes "x")) Granted }
+    ∷ record { pass = 0; txn = 1; deed = Ask 0 (at (codes "f")) Granted }
+    ∷ record { pass = 0; txn = 1; deed = Ask 0 (at (codes "t")) Granted } ∷ []
+
+-- the nodes with the images of a plan, each with its row
+abbrev pub with_images : Nodes → List (ℕ × Node) → Nodes
+with_images c [] = c
+with_images c (i ∷ is) = λ r. if nat_eq i.0 r then i.1 else with_images c is r
+
+-- What a plan for a deed of a transaction makes of this table: it lays a part anew, and the table after it is this.
+pub record Works (txn : ℕ) (deed : Deed) (top : Top) (cut new : Cut) (images : List (ℕ × Node)) (after : List Pair) : Type 0 where
+  pub relaid : Relaid 1 9 four (with_images four images) tree_modes tree_modes four_state (table_of after) four_forest 0 top cut new
+  pub replies : replied one_tree txn deed (tree_at four_state 0) ≡ deed
+
+-- Transaction 2 asks for "p". Row 6 stays held, with the gap above "m"; row 3 comes from the pool as its left child.
+abbrev pub WorkedInsertion : Type 0
+WorkedInsertion =
+    Works 2 (Ask 0 (at (codes "p")) Granted) (from_row 6 (Some (Bytes (codes "m")), None))
+    (held (end 0) 6 (end 6))
+    (held (held (end 0) 3 (end 0)) 6 (end 6))
+    ((6, holds 1 (at (codes "t")) 4 6) ∷ (3, holds 2 (at (codes "p")) 0 0) ∷ (1, leads 8) ∷ [])
+    (pair 1 (at (codes "f")) ∷ pair 1 (at (codes "m")) ∷ pair 2 (at (codes "p")) ∷ pair 1 (at (codes "t")) ∷ pair 2 (at (codes "x")) ∷ [])
+
+-- Transaction 1 asks for "f" to "t": its three ranges become one, in row 4, and rows 2 and 6 go to the pool.
+abbrev pub WorkedMerge : Type 0
+WorkedMerge =
+    Works 1 (Ask 0 (from_to (codes "f") (codes "t")) Granted) from_anchor
+    (held (held (end 0) 2 (end 0)) 4 (held (end 0) 6 (end 6)))
+    (held (end 0) 4 (end 6))
+    ((4, holds 1 (from_to (codes "f") (codes "t")) 0 6) ∷ (2, leads 7) ∷ (6, leads 4) ∷ (1, leads 3) ∷ [])
+    (pair 1 (from_to (codes "f") (codes "t")) ∷ pair 2 (at (codes "x")) ∷ [])
+
+-- Transaction 1 frees "m". Two links hang below row 4, so that row 6 is taken into the part and hangs in its place.
+pub record WorkedRemoval : Type 0 where
+  pub widened : Widens four 5 (held (end 3) 4 (end 7)) 6 (3 ∷ []) []
+  pub works : Works 1 (Free 0 (at (codes "m")) true 1) from_anchor
+      (held (end 3) 4 (held (end 0) 6 (end 6)))
+      (held (end 3) 6 (end 6))
+      ((0, leads 7) ∷ (6, holds 1 (at (codes "t")) 3 6) ∷ (4, leads 4) ∷ (1, leads 5) ∷ [])
+      (pair 1 (at (codes "f")) ∷ pair 1 (at (codes "t")) ∷ pair 2 (at (codes "x")) ∷ [])
+
+-- The tree is joined: the three ranges of transaction 1 become one.
+abbrev pub WorkedJoin : Type 0
+WorkedJoin =
+    Works 2 (Join 0 4 2) from_anchor
+    (held (held (end 0) 2 (end 0)) 4 (held (end 0) 6 (held (end 0) 5 (end 0))))
+    (held (end 0) 4 (held (end 0) 5 (end 0)))
+    ((4, holds 1 (from_to (codes "f") (codes "t")) 0 6) ∷ (2, leads 7) ∷ (6, leads 4) ∷ (1, leads 3) ∷ [])
+    (pair 1 (from_to (codes "f") (codes "t")) ∷ pair 2 (at (codes "x")) ∷ [])
+
+-- A question who holds "a" to "g" against transaction 2 changes nothing: row 2 alone is visited.
+abbrev pub WorkedQuestion : Type 0
+WorkedQuestion =
+    Works 2 (Who 0 (from_to (codes "a") (codes "g")) 2 (1 ∷ [])) from_anchor
+    (held (held (end 0) 2 (end 0)) 4 (end 7))
+    (held (held (end 0) 2 (end 0)) 4 (end 7))
+    []
+    (pair 1 (at (codes "f")) ∷ pair 1 (at (codes "m")) ∷ pair 1 (at (codes "t")) ∷ pair 2 (at (codes "x")) ∷ [])
+
+-- Rows 4 and 2 are turned to the right, and the table stays.
+abbrev pub WorkedRotation : Type 0
+WorkedRotation =
+    Relaid 1 9 four
+    (with_images four ((0, leads 3) ∷ (2, holds 1 (at (codes "f")) 0 5) ∷ (4, holds 1 (at (codes "m")) 0 7) ∷ []))
+    tree_modes tree_modes four_state four_state four_forest 0 from_anchor
+    (held (held (end 0) 2 (end 0)) 4 (end 7))
+    (held (end 0) 2 (held (end 0) 4 (end 7)))

@@ -1,0 +1,140 @@
+//! Laws of the forest. Each function's contract is a law over the definitions; the bodies are empty.
+ghost use Rattle.lt_forest.specs.LawsOfGaps.{RowsHaveOneGap, LeftChildsGap, RightChildsGap, SeenIsWithin, TopIsSeen, LeftIsSeen, RightIsSeen};
+ghost use Rattle.lt_forest.specs.LawsOfParts.{VisitLeavesOutNone, VisitedIsClosed, ClosedPartHasAll, PartShowsPairs, WholePartShowsAll, EmptyTreeHasNone, PartIsLaidForDeed, PartIsLaidAgain};
+ghost use Rattle.lt_forest.specs.LawsOfBuffers.{ChainShowsBuffer, FrontIsGranted, BufferBegins, BufferGrows, BufferEnds, BufferIsDropped, OwnerIsAlone};
+ghost use Rattle.lt_forest.specs.LawsOfRows.{RowsAddUp, VacantIsThere, OpeningIsForest, LinksNameFurther, NoneIsNamedTwice, NoneLeadsBack, NoneOfPoolLeadsBack, PoolIsApart, GapRowsAreLinked, PartRowsAreLinked, RunRowsAreLinked, PoolRowsAreLinked};
+ghost use Rattle.lt_forest.specs.LawsOfOrder.{EndsAreHanging, EndsAreBetween, SameOrderKeeps, LeavingOutLoosens, MergingLoosens, PartWidens, PlacedShows};
+ghost use Rattle.lt_forest.specs.LawsOfViews.{TopIsRead, LeftIsRead, RightIsRead, ReadLinksNameFurther, NoneIsReadTwice, NoneIsReadBack, PoolIsReadApart, VacantIsRead, HeldPartShowsPairs, HeldPartHasAll, HeldWholeShowsAll, HeldChainShowsBuffer, PlanServesDeed, PlanServesLayout, PlanBegins, PlanAppends, PlanEndsBuffer, PlanDropsBuffer};
+
+/// Every row of a search tree has one gap, and a child's gap is its parent's, cut at the parent's range.
+pub fn gaps_of_rows()
+    ensures one { RowsHaveOneGap }
+    ensures left { LeftChildsGap }
+    ensures right { RightChildsGap }
+    ensures seen { SeenIsWithin }
+{}
+
+/// The gaps that a search sees on its way down are true ones, and so are the scores of 100 that it carries with them.
+pub fn gaps_on_the_way()
+    ensures top { TopIsSeen }
+    ensures left { LeftIsSeen }
+    ensures right { RightIsSeen }
+{}
+
+/// What a search for a range leaves out overlaps nothing: a closed part has each pair of its tree that overlaps the range.
+pub fn closed_parts()
+    ensures visited { VisitLeavesOutNone }
+    ensures closed { VisitedIsClosed }
+    ensures all { ClosedPartHasAll }
+    ensures shown { PartShowsPairs }
+    ensures whole { WholePartShowsAll }
+    ensures empty { EmptyTreeHasNone }
+{}
+
+/// A closed part may be laid anew for an ask that is granted or held, a free, a question who holds and a join: the forest is
+/// one of the table after it, with the table's replies, and all other rows keep their gaps.
+pub fn part_laid_for_a_deed()
+    ensures { PartIsLaidForDeed }
+{}
+
+/// A part may be laid anew with the same pairs: the forest is one of the same table, and all other rows keep their gaps.
+pub fn part_laid_again()
+    ensures { PartIsLaidAgain }
+{}
+
+/// A chain's pairs are what its rows grant from the last to the first.
+pub fn chains_of_buffers()
+    ensures shown { ChainShowsBuffer }
+    ensures front { FrontIsGranted }
+{}
+
+/// A buffer begins in an empty tree, and gets rows.
+pub fn buffers_grow()
+    ensures begins { BufferBegins }
+    ensures grows { BufferGrows }
+{}
+
+/// A buffer ends as a search tree, or is dropped whole.
+pub fn buffers_end()
+    ensures ends { BufferEnds }
+    ensures dropped { BufferIsDropped }
+{}
+
+/// A buffer stays where its own transaction asks who holds.
+pub fn owner_of_a_buffer()
+    ensures { OwnerIsAlone }
+{}
+
+/// Rows in use, rows of the pool and anchors are all the rows. At the start none is in use.
+pub fn rows_in_all()
+    ensures all { RowsAddUp }
+    ensures vacant { VacantIsThere }
+    ensures opening { OpeningIsForest }
+{}
+
+/// Each link is 0 or names a further row, no row is named by two, and none leads back.
+pub fn links_of_rows()
+    ensures further { LinksNameFurther }
+    ensures apart { NoneIsNamedTwice }
+    ensures back { NoneLeadsBack }
+    ensures pool_back { NoneOfPoolLeadsBack }
+    ensures pool_apart { PoolIsApart }
+{}
+
+/// Whose links these are.
+pub fn rows_with_links()
+    ensures gap { GapRowsAreLinked }
+    ensures part { PartRowsAreLinked }
+    ensures run { RunRowsAreLinked }
+    ensures pool { PoolRowsAreLinked }
+{}
+
+/// What hangs below a part, and between which bounds, is read off its rows and hangs in key order.
+pub fn parts_in_key_order()
+    ensures hanging { EndsAreHanging }
+    ensures between { EndsAreBetween }
+    ensures same { SameOrderKeeps }
+{}
+
+/// No bound gets tighter where rows are left out, or a run of them becomes one. A part may be widened by the top row of what
+/// hangs, and rows that hold what was laid out show it.
+pub fn plans_in_key_order()
+    ensures left_out { LeavingOutLoosens }
+    ensures merged { MergingLoosens }
+    ensures widened { PartWidens }
+    ensures placed { PlacedShows }
+{}
+
+/// What a pass reads off the rows that it holds: gaps and links.
+pub fn links_that_are_read()
+    ensures top { TopIsRead }
+    ensures left { LeftIsRead }
+    ensures right { RightIsRead }
+    ensures further { ReadLinksNameFurther }
+    ensures apart { NoneIsReadTwice }
+    ensures back { NoneIsReadBack }
+    ensures pool_apart { PoolIsReadApart }
+    ensures vacant { VacantIsRead }
+{}
+
+/// What a pass reads off the rows that it holds: pairs.
+pub fn pairs_that_are_read()
+    ensures part { HeldPartShowsPairs }
+    ensures closed { HeldPartHasAll }
+    ensures whole { HeldWholeShowsAll }
+    ensures chain { HeldChainShowsBuffer }
+{}
+
+/// What a plan owes for a deed in Tree mode, or for a change of layout, is read off what its pass holds.
+pub fn plans_for_trees()
+    ensures deed { PlanServesDeed }
+    ensures layout { PlanServesLayout }
+{}
+
+/// And so is what it owes where it begins a buffer, adds to one, ends one or drops one.
+pub fn plans_for_buffers()
+    ensures begins { PlanBegins }
+    ensures appends { PlanAppends }
+    ensures ends { PlanEndsBuffer }
+    ensures dropped { PlanDropsBuffer }
+{}
