@@ -42,10 +42,10 @@ length-releases_from tree (r ∷ rs) =
     omega (arith, length-append (releases_in tree r) (releases_from (tree + 1) rs), length-releases_in tree r, length-releases_from (tree + 1) rs, sum_by-cons owed_in r rs)
 
 -- the next tree is freed
-pub freed_onward : (setting : Setting) (txn tree : ℕ) (recorded : List Recorded) (i : ℕ) (r : Recorded) (old new whole : List Event) →
+pub freed_onward : (setting : Setting) (txn tree : ℕ) (recorded : List Recorded) (i : ℕ) (r : Recorded) (old new all : List Event) →
     i < length recorded → r ≡ get_or recorded i r → new ≡ freed setting txn (releases_in tree r) old →
-    freed setting txn (releases_from tree (drop i recorded)) old ≡ whole → freed setting txn (releases_from (tree + 1) (drop (i + 1) recorded)) new ≡ whole
-freed_onward setting txn tree recorded i r old new whole inside is made goes =
+    freed setting txn (releases_from tree (drop i recorded)) old ≡ all → freed setting txn (releases_from (tree + 1) (drop (i + 1) recorded)) new ≡ all
+freed_onward setting txn tree recorded i r old new all inside is made goes =
     let rest = releases_from (tree + 1) (drop (i + 1) recorded) in
     let next : drop i recorded ≡ r ∷ drop (i + 1) recorded = drop_more recorded i r inside ∙ ap (λ x. x ∷ drop (i + 1) recorded) (sym is) in
     ap (λ events. freed setting txn rest events) made

@@ -7,3 +7,12 @@ pub mod ScheduleLaws
 pub mod OpeningLaws
 pub mod TraceLaws
 pub mod ClosingLaws
+pub mod PlayLaws
+pub mod PlayedLaws
+pub mod FollowLaws
+pub mod GrowthLaws
+pub mod RunLaws
+pub mod WholeLaws
+pub mod OrderLaws
+pub mod LocksLaws
+pub mod HeadlineLaws

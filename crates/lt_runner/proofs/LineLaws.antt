@@ -70,7 +70,7 @@ open_turn txn recorded = record { txn = txn; lines = []; waits = false; recorded
 abbrev next_turn : ℕ → List Recorded → Line → Turn
 next_turn txn recorded line = record (open_turn txn recorded) { lines = line ∷ [] }
 
-abbrev line_with : ℕ → ℕ → LineDeed → Line
+abbrev pub line_with : ℕ → ℕ → LineDeed → Line
 line_with txn number deed = record { txn = txn; number = number; deed = deed }
 
 -- the game after a step of this turn
@@ -112,7 +112,7 @@ abbrev try_move : Setting → ℕ → List Event → ℕ → Interval → Bool �
 try_move setting txn events tree range room =
     if room then asks [] (receipt_after setting events 0 txn (Ask tree range Granted)) else stops [] (place_after setting events) (used (after setting events))
 
-abbrev try_step : Setting → ℕ → List Recorded → List Event → ℕ → Interval → Bool → Step
+abbrev pub try_step : Setting → ℕ → List Recorded → List Event → ℕ → Interval → Bool → Step
 try_step setting txn recorded events tree range room =
     if room
     then (let ask = event_after setting events 0 txn (Ask tree range Granted) in
@@ -243,7 +243,7 @@ none_from None e = refl
 none_from (Some outcome) e = cc
 
 -- a quiet turn that goes on is one of those above
-is_open : (setting : Setting) (turn : Turn) → IsQuiet setting turn → is_some turn.outcome ≡ false → turn ≡ open_turn turn.txn turn.recorded
+pub is_open : (setting : Setting) (turn : Turn) → IsQuiet setting turn → is_some turn.outcome ≡ false → turn ≡ open_turn turn.txn turn.recorded
 is_open setting turn quiet goes =
     let none = none_from turn.outcome goes in
     λ i. record { txn = turn.txn; lines = quiet.lines i; waits = quiet.waits i; recorded = turn.recorded; outcome = none i; releases = quiet.releases i; big = quiet.big i }

@@ -1,5 +1,5 @@
 -- The turns before the first line.
-use Rattle.std.proofs.Common.{◌≡◌, ℕ, zero, suc, ◌<◌, ◌≤◌, List, [], ◌∷◌, Bool, true, false, ◌==◌, ◌||◌, nat_lt, if◌then◌else◌, map, length, get_or, sum_by, replicate, nat_cmp, refl, sym, ap, subst, ◌∙◌, arith, eq-eqb}
+use Rattle.std.proofs.Common.{◌≡◌, ℕ, zero, suc, ◌<◌, ◌≤◌, List, [], ◌∷◌, Bool, true, false, ◌==◌, ◌||◌, nat_lt, if◌then◌else◌, map, length, get_or, sum_by, replicate, nat_cmp, refl, sym, ap, subst, arith, eq-eqb}
 use Rattle.std.specs.List.{All, fold}
 use Rattle.std.specs.List.Sorted.{IsStrictlySortedBy}
 use Rattle.std.proofs.lemmas.Bool.Decides.{nat_tests}
@@ -12,8 +12,6 @@ use Rattle.lt_trace.specs.declared.line.Line.{Line}
 use Rattle.lt_trace.specs.Grammar.{txns_of}
 use Rattle.lt_runner.specs.TurnView.{Turn}
 use Rattle.lt_runner.specs.Turn.{nothing_recorded}
-use Rattle.lt_seq.specs.declared.event.Event.{Event}
-use Rattle.lt_runner.specs.Serial.{Game, game_at, takes_line, ends_one, opening_game, played}
 use Rattle.lt_runner.specs.AtOnce.{IsQuiet, IsOfTrace, AreOpening, fresh_turn, owed_in, owed, owed_by, numbers_of}
 
 -- Numbers put into an ascending list.
@@ -116,20 +114,3 @@ fresh_opening setting lines all sorted =
 pub opening_turns : (setting : Setting) (lines : List Line) (turns : List Turn) → All (IsOfTrace setting) lines → IsStrictlySortedBy nat_cmp (txns_of lines) →
     turns ≡ map (fresh_turn setting.plan.trees) (txns_of lines) → AreOpening setting lines turns
 opening_turns setting lines turns all sorted is = subst (AreOpening setting lines) (sym is) (fresh_opening setting lines all sorted)
-
--- all that the scheduler does
-pub whole_game : (setting : Setting) (lines : List Line) (events front end : List Event) (turns mid last : List Turn) → AreOpening setting lines turns → events ≡ [] →
-    numbers_of mid ≡ numbers_of turns →
-    game_at front mid false ≡ fold (takes_line setting (numbers_of turns)) (game_at events turns false) lines →
-    game_at end last false ≡ fold (λ game (txn : ℕ). ends_one setting (numbers_of mid) game) (game_at front mid false) (numbers_of mid) →
-    game_at end last false ≡ played setting (txns_of lines) lines
-whole_game setting lines events front end turns mid last opening none same taken ended =
-    let txns = txns_of lines in
-    let numbers : numbers_of mid ≡ txns = same ∙ opening.numbers in
-    let first : fold (takes_line setting (numbers_of turns)) (game_at events turns false) lines ≡ fold (takes_line setting txns) (opening_game setting txns) lines =
-    ap (λ (ns : List ℕ). fold (takes_line setting ns) (game_at events turns false) lines) opening.numbers
-    ∙ ap (λ (es : List Event). fold (takes_line setting txns) (game_at es turns false) lines) none
-    ∙ ap (λ (ts : List Turn). fold (takes_line setting txns) (game_at [] ts false) lines) opening.fresh in
-    ended
-    ∙ ap (λ (ns : List ℕ). fold (λ game (txn : ℕ). ends_one setting ns game) (game_at front mid false) ns) numbers
-    ∙ ap (λ (game : Game). fold (λ game (txn : ℕ). ends_one setting txns game) game txns) (taken ∙ first)

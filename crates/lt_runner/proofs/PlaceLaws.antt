@@ -36,7 +36,7 @@ numbers_onward lines i line old new whole inside is made goes =
     ∙ sym (at_drop_more (λ ls. fold f old (map (λ (l : Line). l.txn) ls)) lines i line inside) ∙ goes
 
 -- a number of a list has a place in it
-is_in_at : (n : ℕ) (ns : List ℕ) → is_in n ns ≡ true → (i : ℕ) × (i < length ns) × (get_or ns i 0 ≡ n)
+pub is_in_at : (n : ℕ) (ns : List ℕ) → is_in n ns ≡ true → (i : ℕ) × (i < length ns) × (get_or ns i 0 ≡ n)
 is_in_at n [] e = cc
 is_in_at n (m ∷ ms) e = by_test (m == n) refl e (is_in_at n ms)
   where

@@ -27,7 +27,7 @@ pub record IsPlayed (setting : Setting) (deed : LineDeed) (turns : List Turn) (e
   pub plain : IsPlain setting deed
   pub step : step_at new_events new ≡ played_by setting deed (step_at events (get_or turns place d))
 
-played_keeps : (setting : Setting) (deed : LineDeed) (turns : List Turn) (events new_events : List Event) (place : ℕ) (d new : Turn) →
+pub played_keeps : (setting : Setting) (deed : LineDeed) (turns : List Turn) (events new_events : List Event) (place : ℕ) (d new : Turn) →
     IsPlayed setting deed turns events new_events place d new → Keeps setting (gain_of deed) (step_at events (get_or turns place d)) (step_at new_events new)
 played_keeps setting deed turns events new_events place d new p =
     subst (λ step. Keeps setting (gain_of deed) (step_at events (get_or turns place d)) step) (sym p.step)

@@ -1,6 +1,6 @@
 -- What a trace gives its runner.
-use Rattle.std.proofs.Common.{◌≡◌, ℕ, ◌+◌, ◌≤◌, ◌^◌, List, [], ◌∷◌, ◌++◌, Bool, true, false, Option, Some, None, nat_lt, if◌then◌else◌, length, refl, sym, ap, subst, ◌*◌, arith}
-use Rattle.std.specs.List.{All}
+use Rattle.std.proofs.Common.{◌≡◌, ℕ, ◌+◌, ◌≤◌, ◌^◌, List, [], ◌∷◌, ◌++◌, Bool, true, false, not, Option, Some, None, nat_lt, if◌then◌else◌, length, refl, sym, ap, subst, ◌*◌, arith}
+use Rattle.std.specs.List.{All, AllByRecursion}
 use Rattle.std.specs.Option.{option_or}
 use Rattle.std.proofs.lemmas.Bool.Decides.{nat_tests}
 use Rattle.std.proofs.lemmas.List.{length-append}
@@ -11,10 +11,12 @@ use Rattle.lt_trace.specs.declared.line.Line.{Line}
 use Rattle.lt_trace.specs.declared.line.LineDeed.{LineDeed}
 use Rattle.lt_trace.specs.declared.line.LineDeed.TheVariants.{Try, Lock, End, Abort, Escalate, Big}
 use Rattle.lt_trace.specs.declared.fault.TraceFault.{TraceFault}
+use Rattle.lt_trace.specs.declared.fault.TraceFault.TheVariants as fault
 use Rattle.lt_trace.specs.Trace.{TraceView}
-use Rattle.lt_trace.specs.Grammar.{IsTrace, IsBody, AreFaultless, IsDeedForm, is_outside, fault_of_deed, fault_of_turn, whole}
+use Rattle.lt_trace.specs.Grammar.{IsTrace, IsBody, AreFaultless, IsDeedForm, is_outside, has_long_key, is_backwards, trees_in, fault_of_deed, fault_of_turn, whole}
 use Rattle.lt_runner.specs.Serial.{plan_of, setting_of}
 use Rattle.lt_runner.specs.AtOnce.{IsPlain, IsOfTrace, HasPlaces}
+use Rattle.lt_runner.proofs.GrowthLaws.{AsksRange}
 
 -- a row of the table of faults that does not apply
 not_first : (b : Bool) (fault : TraceFault) (rest : Option TraceFault) → (if b then Some fault else rest) ≡ None → b ≡ false
@@ -24,6 +26,23 @@ not_first false fault rest e = refl
 none_first : (a b : Option TraceFault) → option_or a b ≡ None → a ≡ None
 none_first None b e = refl
 none_first (Some fault) b e = cc
+
+not_second : (b : Bool) (fault : TraceFault) (rest : Option TraceFault) → (if b then Some fault else rest) ≡ None → rest ≡ None
+not_second true fault rest e = cc
+not_second false fault rest e = e
+
+not_not : (b : Bool) → not b ≡ false → b ≡ true
+not_not true e = refl
+not_not false e = cc
+
+-- its range is one
+range_deed : (deed : LineDeed) → is_backwards deed ≡ false → AsksRange deed
+range_deed (Try tree range) e = not_not _ e
+range_deed (Lock tree range) e = not_not _ e
+range_deed End e = tt
+range_deed Abort e = tt
+range_deed (Escalate tree) e = tt
+range_deed Big e = tt
 
 plain_deed : (setting : Setting) (version : ℕ) (deed : LineDeed) → IsDeedForm version deed → is_outside setting.plan.trees deed ≡ false → IsPlain setting deed
 plain_deed setting version (Try tree range) form inside = grind (arith, nat_tests)
@@ -48,6 +67,23 @@ lines_in trace first (line ∷ lines) body = lines_after trace first _ [] (line 
 -- each line may be played
 pub lines_of_trace : (trace : TraceView) (first : ℕ) → IsTrace trace → All (IsOfTrace (setting_of trace 1 first)) trace.lines
 lines_of_trace trace first front = lines_in trace first trace.lines front.body
+
+ranges_after : (header : List ℕ) (before lines : List Line) → AreFaultless header before lines → AllByRecursion (λ line. AsksRange line.deed) lines
+ranges_after header before [] all = tt
+ranges_after header before (line ∷ lines) all =
+    let none = none_first (fault_of_deed line.number (trees_in header) line.deed) (fault_of_turn line.number before line.txn) all.0.says in (
+      range_deed line.deed (not_first (is_backwards line.deed) (fault.Backwards line.number) None
+          (not_second (has_long_key line.deed) (fault.KeyTooLong line.number) _ (not_second (is_outside (trees_in header) line.deed) (fault.TreeOutOfRange line.number) _ none))),
+      ranges_after header (before ++ line ∷ []) lines all.1,
+    )
+
+ranges_in : (header : List ℕ) (lines : List Line) → IsBody header lines → AllByRecursion (λ line. AsksRange line.deed) lines
+ranges_in header [] body = tt
+ranges_in header (line ∷ lines) body = ranges_after header [] (line ∷ lines) body.1
+
+-- each line's range is one
+pub ranges_of_trace : (trace : TraceView) → IsTrace trace → AllByRecursion (λ line. AsksRange line.deed) trace.lines
+ranges_of_trace trace front = ranges_in (whole trace).header trace.lines front.body
 
 few_after : (header : List ℕ) (before lines : List Line) → AreFaultless header before lines → length before ≤ 65536 → length before + length lines ≤ 65536
 few_after header before [] all few = omega arith

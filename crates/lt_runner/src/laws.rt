@@ -1,16 +1,19 @@
 //! Laws of runs.
-ghost use Rattle.std.specs.Prelude.{List, ℕ, Bool};
-ghost use Rattle.lt_seq.specs.Table.{Setting};
-ghost use Rattle.lt_trace.specs.declared.line.Line.{Line};
-ghost use Rattle.lt_runner.specs.Run.{IsRunText};
+ghost use Rattle.std.specs.Prelude.{ℕ, false};
+ghost use Rattle.lt_trace.specs.Grammar.{IsTrace};
+ghost use Rattle.lt_trace.specs.Trace.{TraceView};
 ghost use Rattle.lt_runner.specs.Rows.{Rows};
+ghost use Rattle.lt_runner.specs.Run.{IsRunText};
+ghost use Rattle.lt_runner.specs.Serial.{ran_text, serial, setting_of};
 
 /// The plain scheduler writes the worked examples' texts.
 pub fn worked_rows()
     ensures { Rows }
 {}
 
-/// A law, to have the definitions checked.
-pub fn run_law()
-    ensures { (crew : Bool) (setting : Setting) (lines : List Line) (bytes : List ℕ) → IsRunText crew setting lines bytes → IsRunText crew setting lines bytes }
+/// What the plain scheduler writes is the text of a run: one legal history in which each transaction of the trace is
+/// played to its end and no other has an event, with a lawful table at every point and refusals that name exactly the
+/// other owners.
+pub fn serial_is_a_run()
+    ensures { (trace : TraceView) (first : ℕ) → IsTrace trace → IsRunText false (setting_of trace 1 first) trace.lines (ran_text (serial trace first)) }
 {}
