@@ -1,12 +1,12 @@
 -- No trace is as long as the most bytes that are read.
-use Rattle.std.proofs.Common.{◌≡◌, ◌≢◌, ℕ, ◌+◌, ◌*◌, ◌^◌, ◌<◌, ◌≤◌, Bool, true, false, List, [], ◌∷◌, ◌++◌, length, codes, decimal, arith, length-append, lit<, sym, ap, Option, None, Some}
+use Rattle.std.proofs.Common.{◌≡◌, ℕ, ◌+◌, ◌*◌, ◌<◌, ◌≤◌, true, List, [], ◌∷◌, ◌++◌, length, codes, decimal, arith, length-append, lit<, ap, None}
 use Rattle.std.specs.List.{flat_map}
 use Rattle.std.proofs.lemmas.Fmt.{length-decimal-le}
 use Rattle.std.proofs.lemmas.Bool.Decides.{nat_tests}
 use Rattle.lt_ranges.specs.KeyText.{spaced}
 use Rattle.lt_trace.specs.declared.line.Line.{Line}
 use Rattle.lt_trace.specs.Trace.{TraceView}
-use Rattle.lt_trace.specs.Grammar.{AreFaultless, IsFaultless, IsBody, AreInForm, Spells, TextLine, fault_of_text, line_text, header_text, header_forms, front_text, whole}
+use Rattle.lt_trace.specs.Grammar.{AreFaultless, IsBody, AreInForm, Spells, fault_of_text, line_text, header_text, header_forms, whole}
 
 -- a line without a fault has a number and a length in range
 pub text_fits : (number : ℕ) (bytes : List ℕ) → fault_of_text number (record { bytes = bytes; ended = true }) ≡ None → (number ≤ 65540) × (length bytes ≤ 600)

@@ -1,17 +1,16 @@
 -- What the statuses say, from what was read and what was answered.
-use Rattle.std.proofs.Common.{◌≡◌, ◌≢◌, ◌⊎◌, ◌∷◌, ◌<◌, ◌≤◌, ℕ, List, [], length, take, inl, inr, arith, subst, sym, ◌∙◌, ap, refl, Contains, Some, None}
+use Rattle.std.proofs.Common.{◌≡◌, ◌≢◌, ◌⊎◌, ◌∷◌, ◌<◌, ℕ, List, [], length, take, inl, inr, arith, subst, sym, ◌∙◌, ap, refl, Contains}
 use Rattle.std.proofs.lemmas.List.{take_all, length-take}
 use Rattle.std.specs.declared.option.Option.{Option}
-use Rattle.std.specs.Io.KnownBytes.{Appends, Consumes, IsAtEnd}
-use Rattle.lt_edge.specs.Bytes.{AppendsPart, ReadsUpTo}
-use Rattle.lt_trace.specs.Trace.{TraceView}
+use Rattle.std.specs.Io.KnownBytes.{Appends, IsAtEnd}
+use Rattle.lt_edge.specs.Bytes.{AppendsPart}
 use Rattle.lt_trace.specs.Grammar.{Spells, IsFirstFault, Refuses as IsRefused}
 use Rattle.lt_trace.specs.declared.fault.TraceFault.{TraceFault}
 use Rattle.lt_trace.specs.declared.fault.TraceFault.TheVariants as fault
 use Rattle.lt_trace.proofs.FaultLaws.{spelled_not_refused}
 use Rattle.lt_program.specs.Words.{IsCommand}
 use Rattle.lt_program.specs.Answers.{IsAnswer, status_of, bytes_of}
-use Rattle.lt_program.specs.Statuses.{ReadsAll, ReadsEnough, Works, Refuses, Breaks, IsComplete, most_bytes}
+use Rattle.lt_program.specs.Statuses.{ReadsEnough, Works, Refuses, Breaks, IsComplete, most_bytes}
 use Rattle.lt_program.specs.declared.answer.Answer.{Answer}
 use Rattle.lt_program.specs.declared.answer.Answer.TheVariants.{Text, Refusal}
 use Rattle.lt_program.specs.declared.words.Command.{Command}

@@ -1,4 +1,4 @@
-use Rattle.std.proofs.Common.{ap, ◌∙◌, sym, append_assoc}
+use Rattle.std.proofs.Common.{append_assoc}
 use Rattle.lt_program.proofs.refusal.refusal_line.Goals as goal
 
 pub returns : goal.returns
