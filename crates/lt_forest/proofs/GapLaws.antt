@@ -99,6 +99,10 @@ has_is c (node a r b) x y q g h = elim h [
 pub has_stands : (c : Nodes) (t : Tree) (x y : Bound) (q : ℕ) (g : Gap) → HasGap c t x y q g → 0 < times q (in_order t)
 has_stands c t x y q g h = let k = has_is c t x y q g h in gap_stands c t x y q k.0 k.1
 
+pub gap_in_stands : (c : Nodes) (growth : Growth) (q : ℕ) (g : Gap) → GapIn c growth q g → 0 < times q (rows_at growth)
+gap_in_stands c (search_tree t) q g h = has_stands c t None None q g h
+gap_in_stands c (chain rows) q g h = absurd h
+
 -- the gaps of the row to which a link leads
 
 pub top_gap : (c : Nodes) (t : Tree) (link : ℕ) (x y : Bound) (r : ℕ) → LeadsTo c link t → link ≡ r + 1 → IsGap c t x y r (x, y)

@@ -11,13 +11,13 @@ use Rattle.lt_forest.specs.Counts.{times}
 use Rattle.lt_forest.specs.Changes.{Has}
 use Rattle.lt_forest.specs.Bounds.{Bound, Gap}
 use Rattle.lt_forest.specs.Trees.{Tree, leaf, Nodes, pair_of, left_end, right_end, in_order, pairs_in, IsOrdered, HasGap}
-use Rattle.lt_forest.specs.Cuts.{Cut, end, held, fill, bare, IsRow, links, HasCutGap, End, ends, Looser, EndsBefore, BeginsBehind, IsAside, AllAside}
+use Rattle.lt_forest.specs.Cuts.{Cut, end, held, fill, bare, IsRow, links, HasCutGap, End, ends, AllEnds, Looser, EndsBefore, BeginsBehind, IsAside, AllAside}
 use Rattle.lt_forest.proofs.BoundLaws.{lt_le, le_lt}
 use Rattle.lt_forest.proofs.PairLists.{map_app, has_left, has_right, has_either, clear_by, filter_app, filter_clear}
 use Rattle.lt_forest.proofs.TreeLaws.{Agree, ordered_stays, gap_stays}
 use Rattle.lt_forest.proofs.TreeOrders.{pairs_in-node, has_node, node_has, all_inside}
 use Rattle.lt_forest.proofs.SameRows.{times-++, AgreeOn, on_left, on_right, on_tree}
-use Rattle.lt_forest.proofs.EndLaws.{AllEnds, all_app, all_left, all_right, aside_at, links_of, links_of-ends}
+use Rattle.lt_forest.proofs.EndLaws.{all_app, all_left, all_right, aside_at, links_of, links_of-ends}
 
 -- the rows that hang below these links
 abbrev pub hung : (ℕ → Tree) → List ℕ → List ℕ

@@ -18,7 +18,7 @@ use Rattle.lt_forest.proofs.TreeLaws.{FoundAt, found, inner_leads, in_order-plug
 use Rattle.lt_forest.proofs.SameRows.{times-++, one_here, one_equal}
 use Rattle.lt_forest.proofs.Chains.{total_has, total_two, BeginsWith, cut_chain}
 use Rattle.lt_forest.proofs.ForestLaws.{at_most, one_place}
-use Rattle.lt_forest.proofs.GapLaws.{gap_there, is_has, has_stands}
+use Rattle.lt_forest.proofs.GapLaws.{gap_in_stands}
 
 -- the links below a slot, its own among them
 
@@ -264,9 +264,5 @@ module _ {trees rows : ℕ} {c : Nodes} {mode : ℕ → Mode} {state : List Tree
       let o = named_once c (q + 1) (left_of trees) (slots_along (left_of trees) f.pool) (top_slot (left_of trees) (chain f.pool)) is in
       let e = named_in_pool q in
       let p = one_place forest t seen.tree q in
-      let h = gap_in_stands (f.tree t) seen.gap in
+      let h = gap_in_stands c (f.tree t) q g seen.gap in
       omega arith
-    where
-      gap_in_stands : (x : Growth) → GapIn c x q g → 0 < times q (rows_at x)
-      gap_in_stands (search_tree x) h = has_stands c x None None q g h
-      gap_in_stands (chain rs) h = absurd h

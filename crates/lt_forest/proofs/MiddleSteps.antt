@@ -11,6 +11,7 @@ use Rattle.lt_seq.specs.declared.event.Pair.{Pair}
 use Rattle.lt_seq.specs.Pairs.{IsLawful, is_own, is_others, others, freed, count_freed, span, with_pair, granted}
 use Rattle.lt_seq.proofs.PairsLaws.{IsClear}
 use Rattle.lt_forest.specs.Changes.{Has}
+use Rattle.lt_forest.specs.LawsOfOrder.{StepsInTheMiddle}
 use Rattle.lt_forest.proofs.BoundLaws.{lt_is, le_lt}
 use Rattle.lt_forest.proofs.PairLists.{clear_by, filter_app, filter_clear, has_filter, not_over, differ, lawful_cross, lawful_has, has_left}
 use Rattle.lt_forest.proofs.PairChanges.{own_over, others_over}
@@ -139,6 +140,14 @@ module _ (txn : ℕ) (range : Interval) (xs ys zs : List Pair) (lawful : IsLawfu
       (span-middle txn range xs ys zs clear_low clear_high) (freed-middle txn range xs ys zs clear_low clear_high)
       ∙ (with_pair-behind merged_pair xs (freed txn range ys ++ zs) begins_later
       ∙ ap (λ (l : List Pair). xs ++ l) (with_pair-before merged_pair (freed txn range ys) zs begins_earlier))
+
+  pub middle_decides : StepsInTheMiddle txn range xs ys zs
+  middle_decides = record {
+    same_others = others-middle txn range xs ys zs clear_low clear_high;
+    same_count = count_freed-middle txn range xs ys zs clear_low clear_high;
+    new_freed = freed-middle txn range xs ys zs clear_low clear_high;
+    new_granted = granted-middle;
+  }
 
 -- where all of the middle is the transaction's and overlaps, one pair stays of it
 

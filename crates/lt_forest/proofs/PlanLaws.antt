@@ -1,5 +1,5 @@
 -- A part laid anew keeps the forest, with its state changed as the part's pairs are.
-use Rattle.std.proofs.Common.{◌≡◌, ℕ, ◌+◌, ◌<◌, ◌≤◌, List, [], ◌∷◌, ◌++◌, map, length, length-append, Bool, false, set, sym, ap, ◌∙◌, subst, arith}
+use Rattle.std.proofs.Common.{◌≡◌, ◌⊎◌, inl, inr, ℕ, zero, suc, ◌+◌, ◌<◌, ◌≤◌, List, [], ◌∷◌, ◌++◌, map, length, length-append, Bool, false, set, sym, ap, ◌∙◌, subst, arith}
 use Rattle.std.proofs.lemmas.List.{set-get_or}
 use Rattle.std.specs.Prelude.{None}
 use Rattle.lt_ranges.specs.Interval.{overlap}
@@ -12,22 +12,23 @@ use Rattle.lt_seq.specs.Table.{Setting, TreeState, fresh, tree_at, tree_after, r
 use Rattle.lt_forest.specs.Counts.{times}
 use Rattle.lt_forest.specs.Bounds.{Gap, IsInside}
 use Rattle.lt_forest.specs.Changes.{Has, Change}
-use Rattle.lt_forest.specs.Trees.{Tree, Nodes, LeadsTo, in_order, pairs_in, HasGap}
+use Rattle.lt_forest.specs.Trees.{Tree, leaf, node, Nodes, LeadsTo, in_order, pairs_in, HasGap}
 use Rattle.lt_forest.specs.Paths.{plug, front, back, lower, upper, last_link}
-use Rattle.lt_forest.specs.Cuts.{Cut, fill, bare, links}
+use Rattle.lt_forest.specs.Cuts.{Cut, end, held, Shows, fill, bare, links}
 use Rattle.lt_forest.specs.Forest.{Forest, Growth, search_tree, rows_at, IsTree, IsChain, Represents, GapIn, KeepsModes}
-use Rattle.lt_forest.specs.Plans.{Top, top_link, IsPart, IsClosedFor, Lays, range_of, shown_state, ShowsDeed, IsCovered, same_pairs, in_range, Relaid}
+use Rattle.lt_forest.specs.Plans.{Top, from_row, top_link, IsPart, IsClosedFor, Lays, range_of, shown_state, ShowsDeed, IsCovered, same_pairs, in_range, Relaid}
 use Rattle.lt_forest.proofs.PairLists.{not_over}
-use Rattle.lt_forest.proofs.SameRows.{times-++, AgreeOn, on_path}
+use Rattle.lt_forest.proofs.SameRows.{times-++, one_here, one_equal, AgreeOn, on_path}
 use Rattle.lt_forest.proofs.EndLaws.{same_links}
 use Rattle.lt_forest.proofs.PairChanges.{NoPair, drops_none, no_change}
 use Rattle.lt_forest.proofs.DeedChanges.{at_score, DeedChange, deed_changes}
 use Rattle.lt_forest.proofs.HangLaws.{hung, hung_pairs, cut_gap}
-use Rattle.lt_forest.proofs.Growing.{AllGrow, links_grow, all_grow, fill_leads}
+use Rattle.lt_forest.proofs.Growing.{grow, height, AllGrow, links_grow, all_grow, fill_leads}
 use Rattle.lt_forest.proofs.TreeParts.{beside, beside_pairs, PartChange, shown_inside, hung_apart, beside_apart, gaps_stay, new_pairs, new_times, new_length, place_gap}
 use Rattle.lt_forest.proofs.Chains.{BeginsWith, cut_chain, join_chain, on_chain}
 use Rattle.lt_forest.proofs.ForestLaws.{tree_represents, one_place, Moves, off, put_here, Regrows, regrown, regrown_forest, others_placed}
 use Rattle.lt_forest.proofs.StateLaws.{used_moves}
+use Rattle.lt_forest.proofs.GapLaws.{gap_in_stands}
 use Rattle.lt_forest.proofs.PartLaws.{known, at, hanging, filled, whole_is, placed, closed_at, rows_are, whole_pairs, part_lawful, part_fewer, part_finds}
 
 module _ {trees rows t : ℕ} {c d : Nodes} {mode : ℕ → Mode} {state : List TreeState} {f : Forest} {top : Top} {cut new : Cut}
@@ -75,6 +76,59 @@ module _ {trees rows t : ℕ} {c d : Nodes} {mode : ℕ → Mode} {state : List 
       let m = one_place part.forest t part.tree q in
       let z = times-++ q (in_order (bare cut)) taken in
       off part.forest moves q (omega arith) (omega arith)
+
+-- the row from which a part hangs isn't given to the pool
+
+grown_stands : (c : Nodes) (n h : ℕ) → 0 < n → 0 < times h (in_order (grow c n (h + 1)))
+grown_stands c zero h lt = absurd (omega (arith, lt))
+grown_stands c (suc n) h lt =
+    let one : suc h ≡ h + 1 = omega arith in
+    subst (λ (l : ℕ). 0 < times h (in_order (grow c (suc n) l))) one
+    (let o = one_here h in
+    let s = times-++ h (in_order (grow c n (c h).left)) (h ∷ in_order (grow c n (c h).right)) in
+    omega arith)
+
+is_high : (c : Nodes) (link h : ℕ) (t : Tree) → LeadsTo c link t → link ≡ h + 1 → 0 < height t
+is_high c link h leaf leads is = absurd (let z : link ≡ 0 = leads in omega arith)
+is_high c link h (node a r b) leads is = omega arith
+
+one_top : (c : Nodes) (l m : ℕ) (cut : Cut) → Shows c l cut → Shows c m cut → l ≡ m
+one_top c l m (end k) x y = x ∙ sym y
+one_top c l m (held a r b) x y = x.0 ∙ sym y.0
+
+top_kept : (d : Nodes) (h : ℕ) (new : Cut) → Shows d (h + 1) new → (0 < times h (in_order (bare new))) ⊎ (links new ≡ (h + 1) ∷ [])
+top_kept d h (end zero) shows = absurd (let e : h + 1 ≡ 0 = shows in omega arith)
+top_kept d h (end (suc l)) shows = inr (ap (λ (n : ℕ). n ∷ []) (sym shows))
+top_kept d h (held a r b) shows =
+    let o = one_equal h r (let e = shows.0 in omega arith) in
+    let s = times-++ h (in_order (bare a)) (r ∷ in_order (bare b)) in
+    inl (omega arith)
+
+module _ {trees rows t h : ℕ} {g : Gap} {c d : Nodes} {mode : ℕ → Mode} {state : List TreeState} {f : Forest} {cut new : Cut}
+    {taken given : List ℕ} (part : IsPart trees rows c mode state f t (from_row h g) cut)
+    (lays : Lays trees t (from_row h g) c d cut new taken given) where
+  top_hangs : 0 < times h (in_order (hanging part (h + 1)))
+  top_hangs =
+      let link : ℕ = last_link c (at part).path (c t).left in
+      let same : link ≡ h + 1 = one_top c link (h + 1) cut (at part).shows part.shows in
+      grown_stands c (height (at part).inner) h (is_high c link h (at part).inner (at part).leads same)
+
+  pub top_not_given : times h given ≡ 0
+  top_not_given =
+      let s = gap_in_stands c (f.tree t) h g part.seen in
+      let r = rows_are part h in
+      let m = one_place part.forest t part.tree h in
+      let k = in_pool part lays h in
+      let e = lays.rows.each h in
+      elim (top_kept d h new lays.shows) [
+        | inl there ↦ omega arith
+        | inr hangs ↦
+            let same : links cut ≡ (h + 1) ∷ [] = same_links c d cut new None None lays.loose ∙ hangs in
+            let below = ap (λ (ls : List ℕ). times h (hung (hanging part) ls)) same in
+            let u = times-++ h (in_order (hanging part (h + 1))) [] in
+            let v = top_hangs in
+            omega arith
+      ]
 
 -- the pairs and the mode that the plan makes of the tree, and how it changes the pairs
 pub record Remakes (c d : Nodes) (mode mode' : ℕ → Mode) (t : ℕ) (old : List Pair) (after : TreeState) (top : Top) (cut new : Cut)

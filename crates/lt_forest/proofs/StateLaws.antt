@@ -6,14 +6,17 @@ use Rattle.lt_ranges.specs.Interval.{whole}
 use Rattle.lt_seq.specs.declared.event.Pair.{Pair}
 use Rattle.lt_seq.specs.declared.event.Mode.{Mode}
 use Rattle.lt_seq.specs.declared.event.Mode.TheVariants.{Tree as TreeMode, Buffer}
+use Rattle.lt_seq.specs.Pairs.{IsLawful}
+use Rattle.lt_seq.specs.Sound.{AllSound}
 use Rattle.lt_seq.specs.Table.{TreeState, fresh, tree_at, rows_in, used}
 use Rattle.lt_forest.specs.Counts.{total}
-use Rattle.lt_forest.specs.Trees.{Tree, leaf, node, Nodes, pair_of, LeadsTo, in_order, pairs_in}
+use Rattle.lt_forest.specs.Trees.{Tree, leaf, node, Nodes, pair_of, LeadsTo, in_order, pairs_in, IsOrdered}
 use Rattle.lt_forest.specs.Cuts.{Cut, bare}
 use Rattle.lt_forest.specs.Forest.{Forest, Growth, search_tree, chain, rows_at, IsTree, IsChain, AllOf, folded, Represents, IsForest}
 use Rattle.lt_forest.specs.Plans.{Top, from_anchor, IsPart, IsClosedFor}
 use Rattle.lt_forest.proofs.BoundLaws.{over_whole}
 use Rattle.lt_forest.proofs.PairLists.{one_list}
+use Rattle.lt_forest.proofs.TreeOrders.{lawful_ordered}
 use Rattle.lt_forest.proofs.Chains.{total_same, chain_one}
 use Rattle.lt_forest.proofs.ForestLaws.{TreeAt, as_tree, ChainAt, as_chain}
 use Rattle.lt_forest.proofs.PartLaws.{map_long, part_lawful, part_has, part_has_all}
@@ -71,6 +74,15 @@ module _ {trees rows : ℕ} {c : Nodes} {mode : ℕ → Mode} {state : List Tree
       empty : (x : Tree) → LeadsTo c (c t).left x → pairs_in c x ≡ []
       empty leaf leads = refl
       empty (node a r b) leads = absurd (let e = leads.0 in omega arith)
+
+  -- a search tree is in order
+  pub in_order_tree : AllSound state → (t : ℕ) (x : Tree) → t < trees → f.tree t ≡ search_tree x → IsOrdered c x None None
+  in_order_tree sound t x lt is = by_mode (mode t) (subst (λ (g : Growth). Represents c (c t).left g (tree_at state t).pairs (mode t)) is (forest.grown t lt))
+    where
+      by_mode : (m : Mode) → Represents c (c t).left (search_tree x) (tree_at state t).pairs m → IsOrdered c x None None
+      by_mode (TreeMode score) grown =
+          lawful_ordered c x None None (subst IsLawful (sym grown.1) (sound t).lawful) (λ p h. (tt, tt))
+      by_mode (Buffer txn count) grown = absurd grown
 
   -- a chain that is held whole shows its buffer
   pub chain_shows : (t owner count : ℕ) (rs : List ℕ) → t < trees → mode t ≡ Buffer owner count → IsChain c (c t).left rs

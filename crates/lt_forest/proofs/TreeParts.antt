@@ -10,7 +10,7 @@ use Rattle.lt_forest.specs.Bounds.{Bound, Gap, IsInside}
 use Rattle.lt_forest.specs.Changes.{Has, Change}
 use Rattle.lt_forest.specs.Trees.{Tree, leaf, Nodes, pair_of, in_order, pairs_in, IsOrdered, HasGap}
 use Rattle.lt_forest.specs.Paths.{Path, plug, front, back, lower, upper}
-use Rattle.lt_forest.specs.Cuts.{Cut, fill, bare, IsRow, links, ends, Looser, AllAside}
+use Rattle.lt_forest.specs.Cuts.{Cut, fill, bare, IsRow, links, ends, AllEnds, Looser, AllAside}
 use Rattle.lt_forest.proofs.PairLists.{map_app, has_left, has_right, has_either, clear_has, filter_app, filter_clear, has_filter, filter_has, one_list}
 use Rattle.lt_forest.proofs.TreeLaws.{AgreePath, inner_ordered, plug_ordered, plug_gap, path_gap, in_order-plug}
 use Rattle.lt_forest.proofs.TreeOrders.{all_inside, ordered_lawful, lawful_ordered, beside_clear}
@@ -59,6 +59,15 @@ has_plug c w t p h =
         | inr m ↦ has_right p low (pairs_in c t ++ high) (has_right p (pairs_in c t) high m)
       ]
     ])
+
+-- any subtree of the same hangs in the place of another
+pub replaced_ordered : (c d : Nodes) (H : ℕ → Tree) (w : Path) (cut new : Cut) → H 0 ≡ leaf
+    → IsOrdered c (plug w (fill H cut)) None None → AgreeOn c d (beside w) → IsOrdered d (bare new) (lower c w None) (upper c w None)
+    → AllEnds (λ e. IsOrdered d (H e.0) e.1 e.2) (ends d new (lower c w None) (upper c w None))
+    → IsOrdered d (plug w (fill H new)) None None
+replaced_ordered c d H w cut new empty o same shown hangs =
+    plug_ordered c d w (fill H cut) (fill H new) None None (on_path c d w same) o
+    (fill_ordered H empty d new (lower c w None) (upper c w None) shown hangs)
 
 -- a part of a lawful tree, at the end of a path
 pub record IsPartAt (c : Nodes) (H : ℕ → Tree) (w : Path) (cut : Cut) : Type 0 where
@@ -170,9 +179,8 @@ module _ {c d : Nodes} {H : ℕ → Tree} {w : Path} {cut new : Cut} {added : Pa
   new_ordered =
       let x = lower c w None in
       let y = upper c w None in
-      plug_ordered c d w (fill H cut) (fill H new) None None path_same (ordered part)
-      (fill_ordered H part.empty d new x y new_shown
-      (looser_ordered H part.empty c d (ends c cut x y) (ends d new x y) looser ends_same (ends_ordered H part.empty c cut x y (inner part))))
+      replaced_ordered c d H w cut new part.empty (ordered part) relaid.beside_same new_shown
+      (looser_ordered H part.empty c d (ends c cut x y) (ends d new x y) looser ends_same (ends_ordered H part.empty c cut x y (inner part)))
 
   -- gaps of rows that aren't of the part stay
   pub gaps_stay : (q : ℕ) (g : Gap) → (IsRow q cut → ⊥) → HasGap c (plug w (fill H cut)) None None q g

@@ -60,6 +60,10 @@ abbrev pub ends : Nodes → Cut → Bound → Bound → List End
 ends c (end l) x y = end_if l x y
 ends c (held a r b) x y = ends c a x (left_end c r) ++ ends c b (right_end c r) y
 
+abbrev pub AllEnds : (End → Type 0) → List End → Type 0
+AllEnds P [] = Unit {0}
+AllEnds P (e ∷ es) = P e × AllEnds P es
+
 -- the same links in the same order, with bounds that are no tighter
 abbrev pub Looser : List End → List End → Type 0
 Looser [] [] = Unit {0}

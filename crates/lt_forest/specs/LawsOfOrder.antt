@@ -1,6 +1,9 @@
 -- What is true of parts in key order, so that a plan can be made from its rows and hangs alone.
-use Rattle.std.specs.Prelude.{◌≡◌, ℕ, ◌+◌, List, [], ◌∷◌, ◌++◌, None, Bool}
-use Rattle.lt_ranges.specs.Interval.{Interval}
+use Rattle.std.specs.Prelude.{◌≡◌, ℕ, ◌+◌, List, [], ◌∷◌, ◌++◌, None, Bool, true}
+use Rattle.lt_ranges.specs.Interval.{Interval, IsInterval, before}
+use Rattle.lt_seq.specs.declared.event.Pair.{Pair}
+use Rattle.lt_seq.specs.Pairs.{IsLawful, is_own, others, freed, count_freed, span, granted}
+use Rattle.lt_forest.specs.Changes.{Has}
 use Rattle.lt_forest.specs.declared.part.PartRow.{PartRow}
 use Rattle.lt_forest.specs.declared.part.Placed.{Placed}
 use Rattle.lt_forest.specs.Bounds.{Bound}
@@ -48,3 +51,23 @@ PartWidens =
 abbrev pub PlacedShows : Type 0
 PlacedShows =
     (d : Nodes) (placed : List Placed) (link : ℕ) (cut : Cut) → HoldsPlaced d placed → IsLaid placed link cut → Shows d link cut
+
+-- What asks and frees make of a list of which all before the middle ends before the range, and all behind it begins behind it:
+-- they see and change the middle alone.
+pub record StepsInTheMiddle (txn : ℕ) (range : Interval) (xs ys zs : List Pair) : Type 0 where
+  pub same_others : others txn range (xs ++ (ys ++ zs)) ≡ others txn range ys
+  pub same_count : count_freed txn range (xs ++ (ys ++ zs)) ≡ count_freed txn range ys
+  pub new_freed : freed txn range (xs ++ (ys ++ zs)) ≡ xs ++ (freed txn range ys ++ zs)
+  pub new_granted : granted txn range (xs ++ (ys ++ zs)) ≡ xs ++ (granted txn range ys ++ zs)
+
+abbrev pub MiddleDecides : Type 0
+MiddleDecides =
+    (txn : ℕ) (range : Interval) (xs ys zs : List Pair) → IsLawful (xs ++ (ys ++ zs)) → IsInterval range
+    → ((p : Pair) → Has p xs → before p.range range ≡ true) → ((p : Pair) → Has p zs → before range p.range ≡ true)
+    → StepsInTheMiddle txn range xs ys zs
+
+-- where all of a list is the transaction's and overlaps, one pair stays of it
+abbrev pub OwnBecomeOne : Type 0
+OwnBecomeOne =
+    (txn : ℕ) (range : Interval) (ys : List Pair) → ((p : Pair) → Has p ys → is_own txn range p ≡ true)
+    → granted txn range ys ≡ record { owner = txn; range = span txn range ys } ∷ []

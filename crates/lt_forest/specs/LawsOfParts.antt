@@ -1,17 +1,27 @@
 -- What is true of parts of search trees, and of plans that lay them anew.
-use Rattle.std.specs.Prelude.{◌≡◌, ℕ, ◌<◌, List, [], slice_set, true}
+use Rattle.std.specs.Prelude.{◌≡◌, ℕ, ◌<◌, List, [], ◌++◌, slice_set, true, None}
 use Rattle.lt_ranges.specs.Interval.{Interval, overlap, whole}
 use Rattle.lt_seq.specs.declared.event.Pair.{Pair}
 use Rattle.lt_seq.specs.declared.event.Mode.{Mode}
 use Rattle.lt_seq.specs.declared.event.Deed.{Deed}
+use Rattle.lt_seq.specs.Sound.{AllSound}
 use Rattle.lt_seq.specs.Table.{Setting, TreeState, tree_at, tree_after, replied, tree_of}
+use Rattle.lt_forest.specs.Counts.{times}
+use Rattle.lt_forest.specs.Bounds.{Gap}
 use Rattle.lt_forest.specs.Changes.{Has}
-use Rattle.lt_forest.specs.Trees.{Nodes, pairs_in}
-use Rattle.lt_forest.specs.Cuts.{Cut, bare}
+use Rattle.lt_forest.specs.Trees.{Tree, leaf, Nodes, pairs_in, IsOrdered}
+use Rattle.lt_forest.specs.Paths.{Path, plug, front, back, lower, upper}
+use Rattle.lt_forest.specs.Cuts.{Cut, fill, bare, ends, AllEnds}
 use Rattle.lt_forest.specs.Visits.{IsVisited}
-use Rattle.lt_forest.specs.Parts.{rows_of, hangs_of}
-use Rattle.lt_forest.specs.Forest.{Forest, IsTree, IsForest, KeepsModes}
-use Rattle.lt_forest.specs.Plans.{Top, from_anchor, IsInGap, IsPart, IsClosedFor, Lays, range_of, ShowsDeed, Relaid}
+use Rattle.lt_forest.specs.Forest.{Forest, search_tree, IsTree, IsForest, KeepsModes}
+use Rattle.lt_forest.specs.Plans.{Top, from_anchor, from_row, IsInGap, IsPart, IsClosedFor, Lays, range_of, ShowsDeed, Relaid}
+
+-- the search trees of a forest are in order
+abbrev pub TreesAreOrdered : Type 0
+TreesAreOrdered =
+    (trees rows : ℕ) (c : Nodes) (mode : ℕ → Mode) (state : List TreeState) (f : Forest) (t : ℕ) (tree : Tree)
+    → IsForest trees rows c mode state f → AllSound state → t < trees → f.tree t ≡ search_tree tree
+    → IsOrdered c tree None None
 
 -- The closed-part law: where a range lies in the seen gap, and each link that a search for it follows is 0 or leads to a row
 -- of the part, each of the tree's pairs that overlaps it is one of the part's.
@@ -56,6 +66,17 @@ EmptyTreeHasNone =
     (trees rows : ℕ) (c : Nodes) (mode : ℕ → Mode) (state : List TreeState) (f : Forest) (t : ℕ)
     → IsForest trees rows c mode state f → t < trees → IsTree (mode t) → (c t).left ≡ 0 → (tree_at state t).pairs ≡ []
 
+-- A subtree may be replaced by another of the same hangs whose ranges ascend between the bounds of its place, where each tree
+-- that hangs lies between its new bounds: the whole tree is in order again.
+abbrev pub ReplacedIsInOrder : Type 0
+ReplacedIsInOrder =
+    (c d : Nodes) (hung : ℕ → Tree) (path : Path) (cut new : Cut)
+    → hung 0 ≡ leaf → IsOrdered c (plug path (fill hung cut)) None None
+    → ((q : ℕ) → 0 < times q (front path ++ back path) → c q ≡ d q)
+    → IsOrdered d (bare new) (lower c path None) (upper c path None)
+    → AllEnds (λ e. IsOrdered d (hung e.0) e.1 e.2) (ends d new (lower c path None) (upper c path None))
+    → IsOrdered d (plug path (fill hung new)) None None
+
 -- A part that is closed for the range of a deed may be laid anew for it: where the new part shows what the deed makes of the
 -- old one, the forest is one of the table after the deed, and the deed's replies are the table's. The deed is an ask that is
 -- granted or held, a free, a question who holds, or a join.
@@ -77,3 +98,11 @@ PartIsLaidAgain =
     → IsPart trees rows c mode state f t top cut → Lays trees t top c d cut new [] []
     → pairs_in d (bare new) ≡ pairs_in c (bare cut)
     → Relaid trees rows c d mode mode state state f t top cut new
+
+-- The row from which a part hangs does not go to the pool.
+abbrev pub TopRowStays : Type 0
+TopRowStays =
+    (trees rows : ℕ) (c d : Nodes) (mode : ℕ → Mode) (state : List TreeState) (f : Forest) (t h : ℕ) (g : Gap) (cut new : Cut)
+    (taken given : List ℕ)
+    → IsPart trees rows c mode state f t (from_row h g) cut → Lays trees t (from_row h g) c d cut new taken given
+    → times h given ≡ 0

@@ -1,9 +1,9 @@
 //! Laws of the forest. Each function's contract is a law over the definitions; the bodies are empty.
 ghost use Rattle.lt_forest.specs.LawsOfGaps.{RowsHaveOneGap, LeftChildsGap, RightChildsGap, SeenIsWithin, TopIsSeen, LeftIsSeen, RightIsSeen};
-ghost use Rattle.lt_forest.specs.LawsOfParts.{VisitLeavesOutNone, VisitedIsClosed, ClosedPartHasAll, PartShowsPairs, WholePartShowsAll, EmptyTreeHasNone, PartIsLaidForDeed, PartIsLaidAgain};
+ghost use Rattle.lt_forest.specs.LawsOfParts.{TreesAreOrdered, ReplacedIsInOrder, VisitLeavesOutNone, VisitedIsClosed, ClosedPartHasAll, PartShowsPairs, WholePartShowsAll, EmptyTreeHasNone, PartIsLaidForDeed, PartIsLaidAgain, TopRowStays};
 ghost use Rattle.lt_forest.specs.LawsOfBuffers.{ChainShowsBuffer, FrontIsGranted, BufferBegins, BufferGrows, BufferEnds, BufferIsDropped, OwnerIsAlone};
 ghost use Rattle.lt_forest.specs.LawsOfRows.{RowsAddUp, VacantIsThere, OpeningIsForest, LinksNameFurther, NoneIsNamedTwice, NoneLeadsBack, NoneOfPoolLeadsBack, PoolIsApart, GapRowsAreLinked, PartRowsAreLinked, RunRowsAreLinked, PoolRowsAreLinked};
-ghost use Rattle.lt_forest.specs.LawsOfOrder.{EndsAreHanging, EndsAreBetween, SameOrderKeeps, LeavingOutLoosens, MergingLoosens, PartWidens, PlacedShows};
+ghost use Rattle.lt_forest.specs.LawsOfOrder.{EndsAreHanging, EndsAreBetween, SameOrderKeeps, LeavingOutLoosens, MergingLoosens, PartWidens, PlacedShows, MiddleDecides, OwnBecomeOne};
 ghost use Rattle.lt_forest.specs.LawsOfViews.{TopIsRead, LeftIsRead, RightIsRead, ReadLinksNameFurther, NoneIsReadTwice, NoneIsReadBack, PoolIsReadApart, VacantIsRead, HeldPartShowsPairs, HeldPartHasAll, HeldWholeShowsAll, HeldChainShowsBuffer, PlanServesDeed, PlanServesLayout, PlanBegins, PlanAppends, PlanEndsBuffer, PlanDropsBuffer};
 
 /// Every row of a search tree has one gap, and a child's gap is its parent's, cut at the parent's range.
@@ -19,6 +19,13 @@ pub fn gaps_on_the_way()
     ensures top { TopIsSeen }
     ensures left { LeftIsSeen }
     ensures right { RightIsSeen }
+{}
+
+/// The search trees of a forest are in order, since their pairs are those of a sound table. A tree in which a subtree is
+/// replaced stays in order, where the new one fits between what stands beside it and hangs below it.
+pub fn order_of_trees()
+    ensures forest { TreesAreOrdered }
+    ensures replaced { ReplacedIsInOrder }
 {}
 
 /// What a search for a range leaves out overlaps nothing: a closed part has each pair of its tree that overlaps the range.
@@ -40,6 +47,11 @@ pub fn part_laid_for_a_deed()
 /// A part may be laid anew with the same pairs: the forest is one of the same table, and all other rows keep their gaps.
 pub fn part_laid_again()
     ensures { PartIsLaidAgain }
+{}
+
+/// The row from which a part hangs stays in its tree.
+pub fn top_rows()
+    ensures { TopRowStays }
 {}
 
 /// A chain's pairs are what its rows grant from the last to the first.
@@ -103,6 +115,13 @@ pub fn plans_in_key_order()
     ensures merged { MergingLoosens }
     ensures widened { PartWidens }
     ensures placed { PlacedShows }
+{}
+
+/// What an ask or a free makes of a tree's pairs is decided by those between all that end before its range and all that begin
+/// behind it.
+pub fn steps_on_a_part()
+    ensures middle { MiddleDecides }
+    ensures own { OwnBecomeOne }
 {}
 
 /// What a pass reads off the rows that it holds: gaps and links.
