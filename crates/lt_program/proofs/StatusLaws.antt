@@ -4,16 +4,19 @@ use Rattle.std.proofs.lemmas.List.{take_all, length-take}
 use Rattle.std.specs.declared.option.Option.{Option}
 use Rattle.std.specs.Io.KnownBytes.{Appends, IsAtEnd}
 use Rattle.lt_edge.specs.Bytes.{AppendsPart}
-use Rattle.lt_trace.specs.Grammar.{Spells, IsFirstFault, Refuses as IsRefused}
+use Rattle.lt_runner.proofs.HeadlineLaws.{serial_text}
+use Rattle.lt_trace.specs.Trace.{TraceView}
+use Rattle.lt_trace.specs.Grammar.{IsTrace, Spells, IsFirstFault, Refuses as IsRefused}
 use Rattle.lt_trace.specs.declared.fault.TraceFault.{TraceFault}
 use Rattle.lt_trace.specs.declared.fault.TraceFault.TheVariants as fault
 use Rattle.lt_trace.proofs.FaultLaws.{spelled_not_refused}
 use Rattle.lt_program.specs.Words.{IsCommand}
-use Rattle.lt_program.specs.Answers.{IsAnswer, status_of, bytes_of}
+use Rattle.lt_program.specs.Answers.{IsText, IsTextOfRun, IsAnswer, status_of, bytes_of}
 use Rattle.lt_program.specs.Statuses.{ReadsEnough, Works, Refuses, Breaks, IsComplete, most_bytes}
 use Rattle.lt_program.specs.declared.answer.Answer.{Answer}
 use Rattle.lt_program.specs.declared.answer.Answer.TheVariants.{Text, Refusal}
 use Rattle.lt_program.specs.declared.words.Command.{Command}
+use Rattle.lt_program.specs.declared.words.Command.TheVariants.{Serial}
 use Rattle.lt_program.proofs.LengthLaws.{length-front_text}
 
 -- a fault that is no want of memory is the first one
@@ -34,6 +37,11 @@ refused_first bytes fault.OutOfMemory other r = absurd (other refl)
 take_short : (n : ℕ) (all bytes : List ℕ) → bytes ≡ take n all → length bytes < n → bytes ≡ all
 take_short n all bytes e short =
     e ∙ take_all n all (omega (arith, ap length e, length-take n all))
+
+-- the command's text is that of a run
+text_of_run : (command : Command) (trace : TraceView) (text : List ℕ) → IsTrace trace → IsText command trace text → IsTextOfRun command trace text
+text_of_run Serial trace text good is =
+    let P : List ℕ → Type 0 = λ t. IsTextOfRun Serial trace t in subst P (sym is) (serial_text trace 0 good)
 
 -- no other status comes of writing
 pub only_status : (status : ℕ) (a : Answer) → (status ≡ status_of a) ⊎ (status ≡ 5) → Contains (0 ∷ 2 ∷ 3 ∷ 4 ∷ 5 ∷ 6 ∷ []) status
@@ -72,6 +80,7 @@ module _ (words : List (List ℕ)) (left rest before after : Option (List ℕ)) 
     read = record { read = read.read; end = end (length-front_text bytes is.0 is.1) };
     spelled = is.1;
     work = is.2;
+    run = text_of_run command is.0 text.items is.1.0 is.2;
     written = all (λ five. omega arith);
   }
   works (Refusal line) is end (inl s) all done = absurd (omega arith)

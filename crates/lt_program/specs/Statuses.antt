@@ -9,7 +9,7 @@ use Rattle.lt_trace.specs.Grammar.{Spells, IsFirstFault}
 use Rattle.lt_trace.specs.declared.fault.TraceFault.{TraceFault}
 use Rattle.lt_program.specs.Words.{IsCommand}
 use Rattle.lt_program.specs.Refusal.{fault_text}
-use Rattle.lt_program.specs.Answers.{IsText, IsAnswer, bytes_of}
+use Rattle.lt_program.specs.Answers.{IsText, IsTextOfRun, IsAnswer, bytes_of}
 use Rattle.lt_program.specs.declared.answer.Answer.{Answer}
 use Rattle.lt_program.specs.declared.words.Command.{Command}
 
@@ -28,7 +28,7 @@ pub record ReadsEnough (left rest : Option (List ℕ)) (bytes : List ℕ) : Type
   pub bytes_read : ReadsUpTo most_bytes left bytes
   pub read : Consumes left rest bytes
 
--- The command did its work: the bytes read spell a trace, and its text was written.
+-- The command did its work: the bytes read spell a trace, and its text was written, which is that of a run.
 pub record Works (words : List (List ℕ)) (left rest before after : Option (List ℕ)) : Type 0 where
   pub command : Command
   pub bytes : List ℕ
@@ -38,6 +38,7 @@ pub record Works (words : List (List ℕ)) (left rest before after : Option (Lis
   pub read : ReadsAll left rest bytes
   pub spelled : Spells bytes trace
   pub work : IsText command trace text
+  pub run : IsTextOfRun command trace text
   pub written : Appends before after text
 
 -- The bytes read are no trace, and the line of their first fault was written.
