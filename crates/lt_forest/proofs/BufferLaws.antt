@@ -19,9 +19,9 @@ use Rattle.lt_forest.specs.Counts.{one_if, times}
 use Rattle.lt_forest.specs.Bounds.{Gap}
 use Rattle.lt_forest.specs.Trees.{Node, Tree, leaf, node, Nodes, LeadsTo, in_order, pairs_in}
 use Rattle.lt_forest.specs.Cuts.{Cut, end, bare, links}
-use Rattle.lt_forest.specs.Forest.{Forest, Growth, search_tree, chain, rows_at, IsTree, IsChain, IsRun, folded, AllOf, Represents, IsForest, GapIn, ChangesOnly, KeepsModes, Becomes}
-use Rattle.lt_forest.specs.Plans.{MovesPool}
-use Rattle.lt_forest.specs.Buffers.{PutsFirst, Begins, Appends, buffered_state, Ends, Drops}
+use Rattle.lt_forest.specs.Forest.{NoRow, Forest, Growth, search_tree, chain, rows_at, IsTree, IsChain, IsRun, folded, AllOf, Represents, IsForest, GapIn, ChangesOnly, KeepsModes, Becomes}
+use Rattle.lt_forest.specs.Plans.{after_deed, IsReplied, MovesPool}
+use Rattle.lt_forest.specs.Buffers.{whole_free, PutsFirst, Begins, Appends, buffered_state, Ends, Drops}
 use Rattle.lt_forest.proofs.SameRows.{times-++, one_here, one_equal, AgreeOn, on_left, on_right}
 use Rattle.lt_forest.proofs.Growing.{AllGrow, fill_leads}
 use Rattle.lt_forest.proofs.Chains.{total_has, chain_one, BeginsWith, cut_chain, join_chain, on_chain, on_run, on_owner, on_folded}
@@ -39,7 +39,7 @@ module _ {trees rows t : ℕ} {c d : Nodes} {mode mode' : ℕ → Mode} {state :
     {growth : Growth} {pool : List ℕ} (forest : IsForest trees rows c mode state f)
     (grows : Regrows trees t c d mode mode' f after moved growth pool) (gapless : NoGaps c (f.tree t)) where
   becomes : (gone come : ℕ) → length pool + come ≡ length f.pool + gone
-      → Becomes trees rows c d mode mode' state (set state t after) f (λ q. ⊥) gone come
+      → Becomes trees rows c d mode mode' state (set state t after) f NoRow gone come
   becomes gone come pools = record {
     next = regrown f t growth pool;
     forest = regrown_forest forest grows;
@@ -107,7 +107,7 @@ module _ {trees rows t q txn count : ℕ} {range : Interval} {c d : Nodes} {mode
         omega arith;
   }
 
-  puts_first : Becomes trees rows c d mode mode' state (set state t grant) f (λ q. ⊥) 0 1
+  puts_first : Becomes trees rows c d mode mode' state (set state t grant) f NoRow 0 1
   puts_first = becomes forest grows buffer.gapless 0 1 (let k = ap (λ (l : List ℕ). length l) rest.is in omega arith)
 
 -- a buffer begins
@@ -153,13 +153,13 @@ module _ {trees rows t q txn : ℕ} {range : Interval} {c d : Nodes} {mode mode'
       ∙ ((λ i. if is_less 0 setting.plan.buffer begins.room i then record { pairs = granted txn range []; mode = Buffer txn 1 } else record { pairs = pairs_by (others txn range []) txn range []; mode = TreeMode 100 })
       ∙ (λ i. record { pairs = granted txn range (sym no_pairs i); mode = Buffer txn 1 }))
 
-  pub begin_replies : replied setting txn (Ask t range Buffered) (tree_at state t) ≡ Ask t range Buffered
+  pub begin_replies : IsReplied setting txn (Ask t range Buffered) state
   begin_replies =
       ap (replied setting txn (Ask t range Buffered)) empty_state
       ∙ (λ i. Ask t range (if is_less 0 setting.plan.buffer begins.room i then Buffered else reply_by (others txn range [])))
 
-  pub begun : Becomes trees rows c d mode mode' state (set state t (tree_after setting txn (Ask t range Buffered) (tree_at state t))) f (λ q. ⊥) 0 1
-  begun = subst (λ (s : TreeState). Becomes trees rows c d mode mode' state (set state t s) f (λ q. ⊥) 0 1) (sym after_begin)
+  pub begun : Becomes trees rows c d mode mode' state (after_deed setting txn (Ask t range Buffered) state) f NoRow 0 1
+  begun = subst (λ (s : TreeState). Becomes trees rows c d mode mode' state (set state t s) f NoRow 0 1) (sym after_begin)
       (puts_first forest tree no_buffer begins.puts begins.now only other_modes)
 
 -- a buffer gets one row more
@@ -192,13 +192,13 @@ module _ {trees rows t q txn count : ℕ} {range : Interval} {c d : Nodes} {mode
       ∙ (λ i. if fits i then record { pairs = granted txn range (tree_at state t).pairs; mode = Buffer txn (count + 1) }
       else record { pairs = pairs_by (others txn range (tree_at state t).pairs) txn range (tree_at state t).pairs; mode = TreeMode 0 })
 
-  pub append_replies : replied setting txn (Ask t range Buffered) (tree_at state t) ≡ Ask t range Buffered
+  pub append_replies : IsReplied setting txn (Ask t range Buffered) state
   append_replies =
       ap (replied setting txn (Ask t range Buffered)) old_state
       ∙ (λ i. Ask t range (if fits i then Buffered else reply_by (others txn range (tree_at state t).pairs)))
 
-  pub appended : Becomes trees rows c d mode mode' state (set state t (tree_after setting txn (Ask t range Buffered) (tree_at state t))) f (λ q. ⊥) 0 1
-  appended = subst (λ (s : TreeState). Becomes trees rows c d mode mode' state (set state t s) f (λ q. ⊥) 0 1) (sym after_append)
+  pub appended : Becomes trees rows c d mode mode' state (after_deed setting txn (Ask t range Buffered) state) f NoRow 0 1
+  appended = subst (λ (s : TreeState). Becomes trees rows c d mode mode' state (set state t s) f NoRow 0 1) (sym after_append)
       (puts_first forest tree old_buffer appends.puts appends.now only other_modes)
 
 -- a buffer ends
@@ -276,11 +276,11 @@ module _ {trees rows txn owner count : ℕ} {c d : Nodes} {mode mode' : ℕ → 
         omega (arith, length-append given unused.rest, length-append taken unused.rest);
   }
 
-  pub end_replies : replied setting txn deed (tree_at state (tree_of deed)) ≡ deed
+  pub end_replies : IsReplied setting txn deed state
   end_replies = ap (replied setting txn deed) (sym buffered) ∙ ends.replies
 
-  pub ended : Becomes trees rows c d mode mode' state (set state (tree_of deed) (tree_after setting txn deed (tree_at state (tree_of deed))))
-      f (λ q. ⊥) (length olds) (length (in_order (bare new)))
+  pub ended : Becomes trees rows c d mode mode' state (after_deed setting txn deed state)
+      f NoRow (length olds) (length (in_order (bare new)))
   ended = becomes forest regrows (chain_gapless c (f.tree t) ending.rows ending.is) (length olds) (length (in_order (bare new)))
       (let k = ap (λ (l : List ℕ). length l) unused.is in
       let m = ends.all_rows in
@@ -332,7 +332,7 @@ module _ {trees rows t owner count last : ℕ} {c d : Nodes} {mode mode' : ℕ �
     all_owned : (owner == owner) && is_whole range ≡ true
     all_owned = ap₂ (λ (x y : Bool). x && y) (eq-eqb owner owner refl) whole
 
-    ends_whole : Ends setting owner owner count (Free t range first (length (folded owner c (front ++ last ∷ [])))) t c d
+    ends_whole : Ends setting owner owner count (whole_free t range first owner c (front ++ last ∷ [])) t c d
         (mode t) (mode' t) (front ++ last ∷ []) (end 0) [] (front ++ last ∷ [])
     ends_whole =
         let pairs : List Pair = folded owner c (front ++ last ∷ []) in
@@ -353,13 +353,12 @@ module _ {trees rows t owner count last : ℕ} {c d : Nodes} {mode mode' : ℕ �
     all_to_pool : MovesPool trees c d [] (front ++ last ∷ [])
     all_to_pool = record { rest = (c trees).left; takes = refl; gives = to_pool }
 
-    pub drop_replies : replied setting owner (Free t range first (length (folded owner c (front ++ last ∷ [])))) (tree_at state t)
-        ≡ Free t range first (length (folded owner c (front ++ last ∷ [])))
+    pub drop_replies : IsReplied setting owner (whole_free t range first owner c (front ++ last ∷ [])) state
     drop_replies = end_replies forest tree ends_whole all_to_pool dropped_only other_modes
 
     pub dropped : Becomes trees rows c d mode mode' state
-        (set state t (tree_after setting owner (Free t range first (length (folded owner c (front ++ last ∷ [])))) (tree_at state t)))
-        f (λ q. ⊥) (length (front ++ last ∷ [])) 0
+        (after_deed setting owner (whole_free t range first owner c (front ++ last ∷ [])) state)
+        f NoRow (length (front ++ last ∷ [])) 0
     dropped = ended forest tree ends_whole all_to_pool dropped_only other_modes
 
 -- the owner of a buffer asks who holds
@@ -380,7 +379,7 @@ module _ {trees rows t owner count : ℕ} {c : Nodes} {mode : ℕ → Mode} {sta
   mode_there : (tree_at state t).mode ≡ Buffer owner count
   mode_there = sym (forest.modes t tree) ∙ was
 
-  pub who_replies : replied setting txn (Who t range owner []) (tree_at state t) ≡ Who t range owner []
+  pub who_replies : IsReplied setting txn (Who t range owner []) state
   who_replies = ap (λ (l : List ℕ). Who t range owner l) (owner_alone owner count range (tree_at state t) (sound t).owned mode_there)
 
   kept_mode : (m : Mode) → m ≡ Buffer owner count → mode_asked owner m ≡ m
@@ -388,7 +387,7 @@ module _ {trees rows t owner count : ℕ} {c : Nodes} {mode : ℕ → Mode} {sta
       ap (mode_asked owner) is
       ∙ ((λ i. if eq-eqb owner owner refl i then Buffer owner count else TreeMode 0) ∙ sym is)
 
-  pub who_stays : set state t (tree_after setting txn (Who t range owner []) (tree_at state t)) ≡ state
+  pub who_stays : after_deed setting txn (Who t range owner []) state ≡ state
   who_stays =
       ap (λ (m : Mode). set state t (record { pairs = (tree_at state t).pairs; mode = m })) (kept_mode (tree_at state t).mode mode_there)
       ∙ set-get_or state t fresh

@@ -8,11 +8,12 @@ use Rattle.lt_seq.specs.declared.event.Reply.TheVariants.{Buffered}
 use Rattle.lt_seq.specs.declared.event.Deed.{Deed}
 use Rattle.lt_seq.specs.declared.event.Deed.TheVariants.{Ask, Free}
 use Rattle.lt_seq.specs.Table.{Setting, TreeState, tree_at, tree_after, replied, tree_of, is_whole}
+use Rattle.lt_forest.specs.Plans.{after_deed, IsReplied}
 use Rattle.lt_forest.specs.Counts.{times}
 use Rattle.lt_forest.specs.Trees.{Node, Nodes, in_order, pairs_in}
 use Rattle.lt_forest.specs.Cuts.{Cut, Shows, bare}
-use Rattle.lt_forest.specs.Forest.{Forest, IsChain, folded, IsForest, ChangesOnly, KeepsModes, Becomes}
-use Rattle.lt_forest.specs.Buffers.{PutsFirst, Begins, Appends, buffered_state, Ends, Drops}
+use Rattle.lt_forest.specs.Forest.{NoRow, Forest, IsChain, folded, IsForest, ChangesOnly, KeepsModes, Becomes}
+use Rattle.lt_forest.specs.Buffers.{whole_free, PutsFirst, Begins, Appends, buffered_state, Ends, Drops}
 use Rattle.lt_forest.specs.Views.{Agrees, IsView, AllHeld, PlansThese, PlanEnds, PlanDrops}
 use Rattle.lt_forest.proofs.SameRows.{times-++, one_here, AgreeOn, on_right, on_pairs}
 use Rattle.lt_forest.proofs.Chains.{on_chain, on_folded}
@@ -61,10 +62,10 @@ module _ {has : ℕ → Type 0} {planned : List ℕ} {trees rows t q txn : ℕ} 
     puts = true_puts view these begins.puts;
   }
 
-  pub view_begun : Becomes trees rows c d mode mode' state (set state t (tree_after setting txn (Ask t range Buffered) (tree_at state t))) f (λ q. ⊥) 0 1
+  pub view_begun : Becomes trees rows c d mode mode' state (after_deed setting txn (Ask t range Buffered) state) f NoRow 0 1
   view_begun = begun forest tree true_begins (true_only view these begins.puts) other_modes
 
-  pub view_begin_replies : replied setting txn (Ask t range Buffered) (tree_at state t) ≡ Ask t range Buffered
+  pub view_begin_replies : IsReplied setting txn (Ask t range Buffered) state
   view_begin_replies = begin_replies forest tree true_begins (true_only view these begins.puts) other_modes
 
 module _ {has : ℕ → Type 0} {planned : List ℕ} {trees rows t q txn count : ℕ} {range : Interval} {v v' c d : Nodes} {mode mode' : ℕ → Mode}
@@ -79,10 +80,10 @@ module _ {has : ℕ → Type 0} {planned : List ℕ} {trees rows t q txn count :
     puts = true_puts view these appends.puts;
   }
 
-  pub view_appended : Becomes trees rows c d mode mode' state (set state t (tree_after setting txn (Ask t range Buffered) (tree_at state t))) f (λ q. ⊥) 0 1
+  pub view_appended : Becomes trees rows c d mode mode' state (after_deed setting txn (Ask t range Buffered) state) f NoRow 0 1
   view_appended = appended forest tree true_appends (true_only view these appends.puts) other_modes
 
-  pub view_append_replies : replied setting txn (Ask t range Buffered) (tree_at state t) ≡ Ask t range Buffered
+  pub view_append_replies : IsReplied setting txn (Ask t range Buffered) state
   view_append_replies = append_replies forest tree true_appends (true_only view these appends.puts) other_modes
 
 -- a chain that is held with its anchor
@@ -134,11 +135,11 @@ module _ {has : ℕ → Type 0} {planned : List ℕ} {trees rows txn owner count
   ends_only : ChangesOnly (tree_of deed ∷ trees ∷ olds ++ taken) c d
   ends_only = planned_only (tree_of deed ∷ trees ∷ olds ++ taken) planned c d view.stays plan.only
 
-  pub view_ended : Becomes trees rows c d mode mode' state (set state (tree_of deed) (tree_after setting txn deed (tree_at state (tree_of deed))))
-      f (λ q. ⊥) (length olds) (length (in_order (bare new)))
+  pub view_ended : Becomes trees rows c d mode mode' state (after_deed setting txn deed state)
+      f NoRow (length olds) (length (in_order (bare new)))
   view_ended = ended forest tree true_ends (true_pool view plan.pool) ends_only other_modes
 
-  pub view_end_replies : replied setting txn deed (tree_at state (tree_of deed)) ≡ deed
+  pub view_end_replies : IsReplied setting txn deed state
   view_end_replies = end_replies forest tree true_ends (true_pool view plan.pool) ends_only other_modes
 
 -- a buffer is dropped whole
@@ -180,12 +181,11 @@ module _ {has : ℕ → Type 0} {planned : List ℕ} {trees rows t owner count l
 
   module _ (setting : Setting) (range : Interval) (first : Bool) (whole : is_whole range ≡ true) where
     pub view_dropped : Becomes trees rows c d mode mode' state
-        (set state t (tree_after setting owner (Free t range first (length (folded owner v (front ++ last ∷ [])))) (tree_at state t)))
-        f (λ q. ⊥) (length (front ++ last ∷ [])) 0
+        (after_deed setting owner (whole_free t range first owner v (front ++ last ∷ [])) state)
+        f NoRow (length (front ++ last ∷ [])) 0
     view_dropped = dropped forest tree true_drops drops_only other_modes setting range first whole
 
-    pub view_drop_replies : replied setting owner (Free t range first (length (folded owner v (front ++ last ∷ [])))) (tree_at state t)
-        ≡ Free t range first (length (folded owner v (front ++ last ∷ [])))
+    pub view_drop_replies : IsReplied setting owner (whole_free t range first owner v (front ++ last ∷ [])) state
     view_drop_replies =
         drop_replies forest tree true_drops drops_only other_modes setting range first whole
         ∙ ap (λ (l : List Pair). Free t range first (length l)) (sym pairs_same)

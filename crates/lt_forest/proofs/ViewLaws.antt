@@ -12,7 +12,7 @@ use Rattle.lt_forest.specs.Counts.{times}
 use Rattle.lt_forest.specs.Trees.{Node, Nodes, in_order, pairs_in}
 use Rattle.lt_forest.specs.Cuts.{Cut, end, held, Shows, bare, End, ends, Looser, AllAside}
 use Rattle.lt_forest.specs.Forest.{Forest, IsTree, IsRun, IsForest, ChangesOnly, KeepsModes}
-use Rattle.lt_forest.specs.Plans.{Top, from_anchor, from_row, top_link, IsSeen, KeepsLink, IsPart, IsClosedFor, MovesPool, Lays, range_of, ShowsDeed, Relaid}
+use Rattle.lt_forest.specs.Plans.{after_deed, IsReplied, Top, from_anchor, from_row, top_link, IsSeen, KeepsLink, IsPart, IsClosedFor, MovesPool, Lays, range_of, ShowsDeed, Relaid}
 use Rattle.lt_forest.specs.Views.{Agrees, IsView, AllHeld, PlansOnly, TopHeld, TopStays, HoldsPart, PoolPlan, no_pool, from_pool, PlanLays, PlanShows}
 use Rattle.lt_forest.proofs.SameRows.{AgreeOn, on_left, on_right, on_here, on_pairs}
 use Rattle.lt_forest.proofs.EndLaws.{on_ends}
@@ -160,11 +160,11 @@ module _ {has : ℕ → Type 0} {planned : List ℕ} {trees rows : ℕ} {top : T
   view_part : IsPart trees rows c mode state f (tree_of deed) top cut
   view_part = true_part view.before plan.part forest sound tree view_deed.was_tree seen
 
-  pub view_relaid : Relaid trees rows c d mode mode' state (set state (tree_of deed) (tree_after setting txn deed (tree_at state (tree_of deed))))
+  pub view_relaid : Relaid trees rows c d mode mode' state (after_deed setting txn deed state)
       f (tree_of deed) top cut new
   view_relaid = event_relaid view_part (true_lays view plan) (true_closed view.before plan.part closed) (true_deed view plan view_deed) other_modes
 
-  pub view_replies : replied setting txn deed (tree_at state (tree_of deed)) ≡ deed
+  pub view_replies : IsReplied setting txn deed state
   view_replies = deed_replies view_part (true_lays view plan) (true_closed view.before plan.part closed) (true_deed view plan view_deed) other_modes
 
 -- a change of layout alone

@@ -14,7 +14,7 @@ use Rattle.lt_forest.specs.Paths.{Path, plug, front, back, lower, upper}
 use Rattle.lt_forest.specs.Cuts.{Cut, fill, bare, ends, AllEnds}
 use Rattle.lt_forest.specs.Visits.{IsVisited}
 use Rattle.lt_forest.specs.Forest.{Forest, search_tree, IsTree, IsForest, KeepsModes}
-use Rattle.lt_forest.specs.Plans.{Top, from_anchor, from_row, IsInGap, IsPart, IsClosedFor, Lays, range_of, ShowsDeed, Relaid}
+use Rattle.lt_forest.specs.Plans.{after_deed, IsReplied, Top, from_anchor, from_row, IsInGap, IsPart, IsClosedFor, Lays, range_of, ShowsDeed, Relaid}
 
 -- the search trees of a forest are in order
 abbrev pub TreesAreOrdered : Type 0
@@ -87,9 +87,8 @@ PartIsLaidForDeed =
     → IsPart trees rows c mode state f (tree_of deed) top cut → Lays trees (tree_of deed) top c d cut new taken given
     → IsClosedFor (range_of deed) top c cut
     → ShowsDeed setting txn deed c d cut new (mode (tree_of deed)) (mode' (tree_of deed)) → KeepsModes (tree_of deed) mode mode'
-    → Relaid trees rows c d mode mode' state
-    (slice_set state (tree_of deed) (tree_after setting txn deed (tree_at state (tree_of deed)))) f (tree_of deed) top cut new
-    × (replied setting txn deed (tree_at state (tree_of deed)) ≡ deed)
+    → Relaid trees rows c d mode mode' state (after_deed setting txn deed state) f (tree_of deed) top cut new
+    × IsReplied setting txn deed state
 
 -- a part may be laid anew with the same pairs, and the table stays
 abbrev pub PartIsLaidAgain : Type 0
