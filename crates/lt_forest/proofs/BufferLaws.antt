@@ -35,7 +35,8 @@ NoGaps c g = (q : ℕ) (gap : Gap) → GapIn c g q gap → ⊥
 chain_gapless : (c : Nodes) (g : Growth) (rows : List ℕ) → g ≡ chain rows → NoGaps c g
 chain_gapless c g rows is q gap h = subst (λ (x : Growth). GapIn c x q gap) is h
 
-module _ {trees rows t : ℕ} {c d : Nodes} {mode mode' : ℕ → Mode} {state : List TreeState} {f : Forest} {after : TreeState} {moved : List ℕ}
+module _ {trees rows t : ℕ} {c d : Nodes} {mode mode' : ℕ → Mode} {state : List TreeState} {f : Forest} {after : TreeState}
+    {moved : List ℕ}
     {growth : Growth} {pool : List ℕ} (forest : IsForest trees rows c mode state f)
     (grows : Regrows trees t c d mode mode' f after moved growth pool) (gapless : NoGaps c (f.tree t)) where
   becomes : (gone come : ℕ) → length pool + come ≡ length f.pool + gone
@@ -58,7 +59,8 @@ record IsBuffer (c : Nodes) (link : ℕ) (g : Growth) (pairs : List Pair) (txn c
   pub count_is : count ≡ length rs
   pub gapless : NoGaps c g
 
-module _ {trees rows t q txn count : ℕ} {range : Interval} {c d : Nodes} {mode mode' : ℕ → Mode} {state : List TreeState} {f : Forest} {rs : List ℕ}
+module _ {trees rows t q txn count : ℕ} {range : Interval} {c d : Nodes} {mode mode' : ℕ → Mode} {state : List TreeState}
+    {f : Forest} {rs : List ℕ}
     (forest : IsForest trees rows c mode state f) (tree : t < trees)
     (buffer : IsBuffer c (c t).left (f.tree t) (tree_at state t).pairs txn count rs)
     (puts : PutsFirst trees t q txn range c d) (now : mode' t ≡ Buffer txn (count + 1))
@@ -119,7 +121,8 @@ no_tree : (c : Nodes) (link : ℕ) (t : Tree) → LeadsTo c link t → link ≡ 
 no_tree c link leaf leads is = refl
 no_tree c link (node a r b) leads is = absurd (let e = leads.0 in omega arith)
 
-module _ {trees rows t q txn : ℕ} {range : Interval} {c d : Nodes} {mode mode' : ℕ → Mode} {state : List TreeState} {f : Forest} {setting : Setting}
+module _ {trees rows t q txn : ℕ} {range : Interval} {c d : Nodes} {mode mode' : ℕ → Mode} {state : List TreeState}
+    {f : Forest} {setting : Setting}
     (forest : IsForest trees rows c mode state f) (tree : t < trees) (begins : Begins setting trees t q txn range c d (mode t) (mode' t))
     (only : ChangesOnly (t ∷ trees ∷ q ∷ []) c d) (other_modes : KeepsModes t mode mode') where
   bare_tree : TreeAt c (c t).left (f.tree t) (tree_at state t).pairs
@@ -147,10 +150,12 @@ module _ {trees rows t q txn : ℕ} {range : Interval} {c d : Nodes} {mode mode'
   empty_state : tree_at state t ≡ fresh
   empty_state i = record { pairs = no_pairs i; mode = (sym (forest.modes t tree) ∙ begins.was) i }
 
-  after_begin : tree_after setting txn (Ask t range Buffered) (tree_at state t) ≡ record { pairs = granted txn range (tree_at state t).pairs; mode = Buffer txn 1 }
+  after_begin : tree_after setting txn (Ask t range Buffered) (tree_at state t)
+      ≡ record { pairs = granted txn range (tree_at state t).pairs; mode = Buffer txn 1 }
   after_begin =
       ap (tree_after setting txn (Ask t range Buffered)) empty_state
-      ∙ ((λ i. if is_less 0 setting.plan.buffer begins.room i then record { pairs = granted txn range []; mode = Buffer txn 1 } else record { pairs = pairs_by (others txn range []) txn range []; mode = TreeMode 100 })
+      ∙ ((λ i. if is_less 0 setting.plan.buffer begins.room i then record { pairs = granted txn range []; mode = Buffer txn 1 }
+      else record { pairs = pairs_by (others txn range []) txn range []; mode = TreeMode 100 })
       ∙ (λ i. record { pairs = granted txn range (sym no_pairs i); mode = Buffer txn 1 }))
 
   pub begin_replies : IsReplied setting txn (Ask t range Buffered) state
@@ -164,8 +169,10 @@ module _ {trees rows t q txn : ℕ} {range : Interval} {c d : Nodes} {mode mode'
 
 -- a buffer gets one row more
 
-module _ {trees rows t q txn count : ℕ} {range : Interval} {c d : Nodes} {mode mode' : ℕ → Mode} {state : List TreeState} {f : Forest} {setting : Setting}
-    (forest : IsForest trees rows c mode state f) (tree : t < trees) (appends : Appends setting trees t q txn count range c d (mode t) (mode' t))
+module _ {trees rows t q txn count : ℕ} {range : Interval} {c d : Nodes} {mode mode' : ℕ → Mode} {state : List TreeState}
+    {f : Forest} {setting : Setting}
+    (forest : IsForest trees rows c mode state f) (tree : t < trees)
+    (appends : Appends setting trees t q txn count range c d (mode t) (mode' t))
     (only : ChangesOnly (t ∷ trees ∷ q ∷ []) c d) (other_modes : KeepsModes t mode mode') where
   old_chain : ChainAt c (c t).left (f.tree t) (tree_at state t).pairs txn count
   old_chain = as_chain c (c t).left (f.tree t) (tree_at state t).pairs (mode t) txn count appends.was (forest.grown t tree)
@@ -186,7 +193,8 @@ module _ {trees rows t q txn count : ℕ} {range : Interval} {c d : Nodes} {mode
   old_state : tree_at state t ≡ record { pairs = (tree_at state t).pairs; mode = Buffer txn count }
   old_state i = record { pairs = (tree_at state t).pairs; mode = (sym (forest.modes t tree) ∙ appends.was) i }
 
-  after_append : tree_after setting txn (Ask t range Buffered) (tree_at state t) ≡ record { pairs = granted txn range (tree_at state t).pairs; mode = Buffer txn (count + 1) }
+  after_append : tree_after setting txn (Ask t range Buffered) (tree_at state t)
+      ≡ record { pairs = granted txn range (tree_at state t).pairs; mode = Buffer txn (count + 1) }
   after_append =
       ap (tree_after setting txn (Ask t range Buffered)) old_state
       ∙ (λ i. if fits i then record { pairs = granted txn range (tree_at state t).pairs; mode = Buffer txn (count + 1) }
@@ -203,10 +211,12 @@ module _ {trees rows t q txn count : ℕ} {range : Interval} {c d : Nodes} {mode
 
 -- a buffer ends
 
-module _ {trees rows txn owner count : ℕ} {c d : Nodes} {mode mode' : ℕ → Mode} {state : List TreeState} {f : Forest} {setting : Setting} {deed : Deed}
+module _ {trees rows txn owner count : ℕ} {c d : Nodes} {mode mode' : ℕ → Mode} {state : List TreeState} {f : Forest}
+    {setting : Setting} {deed : Deed}
     {olds : List ℕ} {new : Cut} {taken given : List ℕ} (forest : IsForest trees rows c mode state f) (tree : tree_of deed < trees)
     (ends : Ends setting txn owner count deed (tree_of deed) c d (mode (tree_of deed)) (mode' (tree_of deed)) olds new taken given)
-    (pool_moves : MovesPool trees c d taken given) (only : ChangesOnly (tree_of deed ∷ trees ∷ olds ++ taken) c d) (other_modes : KeepsModes (tree_of deed) mode mode') where
+    (pool_moves : MovesPool trees c d taken given) (only : ChangesOnly (tree_of deed ∷ trees ∷ olds ++ taken) c d)
+    (other_modes : KeepsModes (tree_of deed) mode mode') where
   abbrev t : ℕ
   t = tree_of deed
 
@@ -297,7 +307,8 @@ chain_run : (c : Nodes) (link last : ℕ) (front : List ℕ) → IsChain c link 
 chain_run c link last [] leads = leads.0
 chain_run c link last (r ∷ front) leads = (leads.0, chain_run c (c r).left last front leads.1)
 
-module _ {trees rows t owner count last : ℕ} {c d : Nodes} {mode mode' : ℕ → Mode} {state : List TreeState} {f : Forest} {front : List ℕ}
+module _ {trees rows t owner count last : ℕ} {c d : Nodes} {mode mode' : ℕ → Mode} {state : List TreeState} {f : Forest}
+    {front : List ℕ}
     (forest : IsForest trees rows c mode state f) (tree : t < trees)
     (drops : Drops trees t owner count c d (mode t) (mode' t) front last) (only : ChangesOnly (t ∷ trees ∷ last ∷ []) c d)
     (other_modes : KeepsModes t mode mode') where

@@ -81,7 +81,8 @@ filter-drops_all : (xs : List Pair) → filter drops_all xs ≡ xs
 filter-drops_all [] = refl
 filter-drops_all (x ∷ xs) = ap (λ (l : List Pair). x ∷ l) (filter-drops_all xs)
 
-module _ (setting : Setting) (txn score : ℕ) (xs zs : List Pair) (lx : IsLawful xs) (lz : IsLawful zs) (le : length xs ≤ length zs) where
+module _ (setting : Setting) (txn score : ℕ) (xs zs : List Pair) (lx : IsLawful xs) (lz : IsLawful zs)
+    (le : length xs ≤ length zs) where
   pub deed_changes : (deed : Deed) → IsQuestion deed → FindsSame (range_of deed) zs xs
       → IsTree (tree_after setting txn deed (at_score xs score)).mode → DeedChange setting txn deed score xs zs
   deed_changes (Ask tree range reply) o found tree_mode =

@@ -42,7 +42,8 @@ full_stays setting txn (Join tree before after) pairs is = refl
 
 -- an event
 
-module _ {trees rows : ℕ} {c d : Nodes} {mode mode' : ℕ → Mode} {state : List TreeState} {f : Forest} {setting : Setting} {txn : ℕ} {deed : Deed}
+module _ {trees rows : ℕ} {c d : Nodes} {mode mode' : ℕ → Mode} {state : List TreeState} {f : Forest} {setting : Setting}
+    {txn : ℕ} {deed : Deed}
     {top : Top} {cut new : Cut} {taken given : List ℕ} (part : IsPart trees rows c mode state f (tree_of deed) top cut)
     (lays : Lays trees (tree_of deed) top c d cut new taken given) (closed : IsClosedFor (range_of deed) top c cut)
     (shows : ShowsDeed setting txn deed c d cut new (mode (tree_of deed)) (mode' (tree_of deed)))

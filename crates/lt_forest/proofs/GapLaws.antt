@@ -141,17 +141,20 @@ pub seen_left : (c : Nodes) (t : Tree) (link : ℕ) (x y : Bound) (p r : ℕ) (g
     → (c p).left ≡ r + 1 → HasGap c t x y r (g.0, left_end c p)
 seen_left c t link x y p r g leads h is =
     let k = has_is c t x y p g h in
-    is_has c t x y r (g.0, left_end c p) (k.0.0, left_end c p) (gap_left c t link x y p r k.0 leads k.1 is) (k.2.0, less_same (left_end c p))
+    is_has c t x y r (g.0, left_end c p) (k.0.0, left_end c p) (gap_left c t link x y p r k.0 leads k.1 is)
+    (k.2.0, less_same (left_end c p))
 
 pub seen_right : (c : Nodes) (t : Tree) (link : ℕ) (x y : Bound) (p r : ℕ) (g : Gap) → LeadsTo c link t → HasGap c t x y p g
     → (c p).right ≡ r + 1 → HasGap c t x y r (right_end c p, g.1)
 seen_right c t link x y p r g leads h is =
     let k = has_is c t x y p g h in
-    is_has c t x y r (right_end c p, g.1) (right_end c p, k.0.1) (gap_right c t link x y p r k.0 leads k.1 is) (greater_same (right_end c p), k.2.1)
+    is_has c t x y r (right_end c p, g.1) (right_end c p, k.0.1) (gap_right c t link x y p r k.0 leads k.1 is)
+    (greater_same (right_end c p), k.2.1)
 
 -- and over a forest
 
-module _ {trees rows : ℕ} {c : Nodes} {mode : ℕ → Mode} {state : List TreeState} {f : Forest} (forest : IsForest trees rows c mode state f) where
+module _ {trees rows : ℕ} {c : Nodes} {mode : ℕ → Mode} {state : List TreeState} {f : Forest}
+    (forest : IsForest trees rows c mode state f) where
   pub row_gap : (t : ℕ) (x : Tree) (q : ℕ) → t < trees → f.tree t ≡ search_tree x → 0 < times q (in_order x)
       → (g : Gap) × IsGap c x None None q g × ((k : Gap) → IsGap c x None None q k → k ≡ g)
   row_gap t x q lt is some =

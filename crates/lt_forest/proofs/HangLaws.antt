@@ -231,7 +231,8 @@ module _ (H : ℕ → Tree) (empty : H 0 ≡ leaf) where
     | inr u ↦ inr (inr (into c b (right_end c r) y q g u))
   ]
 
-  pub looser_gap : (c d : Nodes) (es fs : List End) (q : ℕ) (g : Gap) → Looser es fs → AgreeEnds c d H es → InEnds c H es q g → InEnds d H fs q g
+  pub looser_gap : (c d : Nodes) (es fs : List End) (q : ℕ) (g : Gap) → Looser es fs → AgreeEnds c d H es
+      → InEnds c H es q g → InEnds d H fs q g
   looser_gap c d [] fs q g loose same h = absurd h
   looser_gap c d (h ∷ hs) [] q g loose same i = absurd loose
   looser_gap c d (h ∷ hs) (k ∷ ks) q g loose same i = elim i [

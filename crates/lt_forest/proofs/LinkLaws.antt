@@ -175,7 +175,8 @@ place_of trees f s h = elim h [
         (λ e. inr (subst (λ (n : ℕ). HasSlot (left_of n) (slots_along (left_of trees) f.pool)) (sym e) (top_slot (left_of trees) (chain f.pool))))
         (λ ne. inl (r, omega arith, top_slot (left_of r) (f.tree r)))
 
-module _ {trees rows : ℕ} {c : Nodes} {mode : ℕ → Mode} {state : List TreeState} {f : Forest} (forest : IsForest trees rows c mode state f) where
+module _ {trees rows : ℕ} {c : Nodes} {mode : ℕ → Mode} {state : List TreeState} {f : Forest}
+    (forest : IsForest trees rows c mode state f) where
   named_in_tree : (t r : ℕ) → t < trees → times (r + 1) (values c (slots_at (left_of t) (f.tree t))) ≡ times r (rows_at (f.tree t))
   named_in_tree t r lt = by_growth (f.tree t) (mode t) (forest.grown t lt)
     where

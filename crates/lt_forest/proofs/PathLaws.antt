@@ -167,7 +167,8 @@ chain_apart c link rows q leads one way =
 
 -- over a forest
 
-module _ {trees rows : ℕ} {c : Nodes} {mode : ℕ → Mode} {state : List TreeState} {f : Forest} (forest : IsForest trees rows c mode state f) where
+module _ {trees rows : ℕ} {c : Nodes} {mode : ℕ → Mode} {state : List TreeState} {f : Forest}
+    (forest : IsForest trees rows c mode state f) where
   -- no row of a tree leads back to itself, and none of the pool
   pub none_back : (t q : ℕ) → t < trees → Leads c (IsLinkOf (f.tree t)) q q → ⊥
   none_back t q lt way = by_growth (f.tree t) (mode t) (forest.grown t lt) (let m = one_place forest t lt q in omega arith) way
@@ -217,4 +218,4 @@ pub part_links : {trees rows t : ℕ} {c : Nodes} {mode : ℕ → Mode} {state :
 part_links {t = t} {f = f} part q some =
     let there : 0 < times q (in_order (known part).tree) =
     subst (λ (g : Growth). 0 < times q (rows_at g)) (known part).is (part_stands part q some) in
-    (subst (λ (g : Growth). IsLinkOf g (left_of q)) (sym (known part).is) there, subst (λ (g : Growth). IsLinkOf g (right_of q)) (sym (known part).is) there)
+    subst (λ (g : Growth). IsLinkOf g (left_of q) × IsLinkOf g (right_of q)) (sym (known part).is) (there, there)

@@ -141,7 +141,8 @@ pub record Remakes (c d : Nodes) (mode mode' : ℕ → Mode) (t : ℕ) (old : Li
   pub shown : Change added dropped (pairs_in c (bare cut)) (pairs_in d (bare new))
   pub whole : Change added dropped old after.pairs
 
-module _ {trees rows t : ℕ} {c d : Nodes} {mode mode' : ℕ → Mode} {state : List TreeState} {f : Forest} {top : Top} {cut new : Cut}
+module _ {trees rows t : ℕ} {c d : Nodes} {mode mode' : ℕ → Mode} {state : List TreeState} {f : Forest} {top : Top}
+    {cut new : Cut}
     {taken given : List ℕ} {after : TreeState} {added : Pair → Type 0} {dropped : Pair → Bool}
     (part : IsPart trees rows c mode state f t top cut) (lays : Lays trees t top c d cut new taken given)
     (remakes : Remakes c d mode mode' t (tree_at state t).pairs after top cut new added dropped) where

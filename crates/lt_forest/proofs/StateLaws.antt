@@ -43,7 +43,8 @@ grown_rows c link (search_tree t) pairs (Buffer txn count) h = absurd h
 grown_rows c link (chain rows) pairs (TreeMode s) h = absurd h
 grown_rows c link (chain rows) pairs (Buffer txn count) h = h.3
 
-module _ {trees rows : ℕ} {c : Nodes} {mode : ℕ → Mode} {state : List TreeState} {f : Forest} (forest : IsForest trees rows c mode state f) where
+module _ {trees rows : ℕ} {c : Nodes} {mode : ℕ → Mode} {state : List TreeState} {f : Forest}
+    (forest : IsForest trees rows c mode state f) where
   -- used rows, vacant ones and anchors are all the rows
   pub rows_add_up : used state + length f.pool + trees + 1 ≡ rows
   rows_add_up =
@@ -77,7 +78,8 @@ module _ {trees rows : ℕ} {c : Nodes} {mode : ℕ → Mode} {state : List Tree
 
   -- a search tree is in order
   pub in_order_tree : AllSound state → (t : ℕ) (x : Tree) → t < trees → f.tree t ≡ search_tree x → IsOrdered c x None None
-  in_order_tree sound t x lt is = by_mode (mode t) (subst (λ (g : Growth). Represents c (c t).left g (tree_at state t).pairs (mode t)) is (forest.grown t lt))
+  in_order_tree sound t x lt is =
+      by_mode (mode t) (subst (λ (g : Growth). Represents c (c t).left g (tree_at state t).pairs (mode t)) is (forest.grown t lt))
     where
       by_mode : (m : Mode) → Represents c (c t).left (search_tree x) (tree_at state t).pairs m → IsOrdered c x None None
       by_mode (TreeMode score) grown =

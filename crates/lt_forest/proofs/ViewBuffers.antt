@@ -25,7 +25,8 @@ use Rattle.lt_forest.proofs.ViewLaws.{on_cut, held_same, planned_only, true_pool
 abbrev left : Node → ℕ
 left n = n.left
 
-module _ {has : ℕ → Type 0} {planned : List ℕ} {trees t q txn : ℕ} {range : Interval} {v v' c d : Nodes} (view : IsView has planned v v' c d)
+module _ {has : ℕ → Type 0} {planned : List ℕ} {trees t q txn : ℕ} {range : Interval} {v v' c d : Nodes}
+    (view : IsView has planned v v' c d)
     (these : PlansThese has planned (t ∷ trees ∷ q ∷ [])) (puts : PutsFirst trees t q txn range v v') where
   at_anchor : has t
   at_anchor = these.held t (let o = one_here t in omega arith)
@@ -49,7 +50,8 @@ module _ {has : ℕ → Type 0} {planned : List ℕ} {trees t q txn : ℕ} {rang
   true_only : ChangesOnly (t ∷ trees ∷ q ∷ []) c d
   true_only = planned_only (t ∷ trees ∷ q ∷ []) planned c d view.stays these.only
 
-module _ {has : ℕ → Type 0} {planned : List ℕ} {trees rows t q txn : ℕ} {range : Interval} {v v' c d : Nodes} {mode mode' : ℕ → Mode}
+module _ {has : ℕ → Type 0} {planned : List ℕ} {trees rows t q txn : ℕ} {range : Interval} {v v' c d : Nodes}
+    {mode mode' : ℕ → Mode}
     {state : List TreeState} {f : Forest} {setting : Setting} (forest : IsForest trees rows c mode state f) (tree : t < trees)
     (view : IsView has planned v v' c d) (these : PlansThese has planned (t ∷ trees ∷ q ∷ []))
     (begins : Begins setting trees t q txn range v v' (mode t) (mode' t)) (other_modes : KeepsModes t mode mode') where
@@ -68,7 +70,8 @@ module _ {has : ℕ → Type 0} {planned : List ℕ} {trees rows t q txn : ℕ} 
   pub view_begin_replies : IsReplied setting txn (Ask t range Buffered) state
   view_begin_replies = begin_replies forest tree true_begins (true_only view these begins.puts) other_modes
 
-module _ {has : ℕ → Type 0} {planned : List ℕ} {trees rows t q txn count : ℕ} {range : Interval} {v v' c d : Nodes} {mode mode' : ℕ → Mode}
+module _ {has : ℕ → Type 0} {planned : List ℕ} {trees rows t q txn count : ℕ} {range : Interval} {v v' c d : Nodes}
+    {mode mode' : ℕ → Mode}
     {state : List TreeState} {f : Forest} {setting : Setting} (forest : IsForest trees rows c mode state f) (tree : t < trees)
     (view : IsView has planned v v' c d) (these : PlansThese has planned (t ∷ trees ∷ q ∷ []))
     (appends : Appends setting trees t q txn count range v v' (mode t) (mode' t)) (other_modes : KeepsModes t mode mode') where
@@ -88,7 +91,8 @@ module _ {has : ℕ → Type 0} {planned : List ℕ} {trees rows t q txn count :
 
 -- a chain that is held with its anchor
 
-module _ {has : ℕ → Type 0} {v c : Nodes} (t : ℕ) (rows : List ℕ) (agrees : Agrees has v c) (chain_held : AllHeld has (t ∷ rows)) where
+module _ {has : ℕ → Type 0} {v c : Nodes} (t : ℕ) (rows : List ℕ) (agrees : Agrees has v c)
+    (chain_held : AllHeld has (t ∷ rows)) where
   pub chain_same : AgreeOn v c rows
   chain_same = on_right v c (t ∷ []) rows (held_same has v c (t ∷ rows) agrees chain_held)
 
@@ -100,10 +104,12 @@ module _ {has : ℕ → Type 0} {v c : Nodes} (t : ℕ) (rows : List ℕ) (agree
 
 -- a buffer ends
 
-module _ {has : ℕ → Type 0} {planned : List ℕ} {trees rows txn owner count : ℕ} {v v' c d : Nodes} {mode mode' : ℕ → Mode} {state : List TreeState}
+module _ {has : ℕ → Type 0} {planned : List ℕ} {trees rows txn owner count : ℕ} {v v' c d : Nodes} {mode mode' : ℕ → Mode}
+    {state : List TreeState}
     {f : Forest} {setting : Setting} {deed : Deed} {olds : List ℕ} {new : Cut} {taken given : List ℕ}
     (forest : IsForest trees rows c mode state f) (tree : tree_of deed < trees) (view : IsView has planned v v' c d)
-    (plan : PlanEnds has planned setting trees txn owner count deed (tree_of deed) v v' (mode (tree_of deed)) (mode' (tree_of deed)) olds new taken given)
+    (plan : PlanEnds has planned setting trees txn owner count deed (tree_of deed) v v' (mode (tree_of deed))
+    (mode' (tree_of deed)) olds new taken given)
     (other_modes : KeepsModes (tree_of deed) mode mode') where
   olds_same : folded owner v olds ≡ folded owner c olds
   olds_same = on_folded v c owner olds (chain_same (tree_of deed) olds view.before plan.chain_held)

@@ -43,7 +43,8 @@ top_same has v c t (from_row h g) agrees k = refl
 
 -- parts
 
-module _ {has : ℕ → Type 0} {t : ℕ} {top : Top} {v c : Nodes} {cut : Cut} (agrees : Agrees has v c) (part : HoldsPart has t top v cut) where
+module _ {has : ℕ → Type 0} {t : ℕ} {top : Top} {v c : Nodes} {cut : Cut} (agrees : Agrees has v c)
+    (part : HoldsPart has t top v cut) where
   cut_same : AgreeOn v c (in_order (bare cut))
   cut_same = held_same has v c (in_order (bare cut)) agrees part.rows
 
@@ -73,11 +74,13 @@ module _ {has : ℕ → Type 0} {t : ℕ} {top : Top} {v c : Nodes} {cut : Cut} 
 
 -- plans
 
-top_stays : (planned : List ℕ) (c d : Nodes) (t : ℕ) (top : Top) → ChangesOnly planned c d → TopStays planned t top → KeepsLink top (c t) (d t)
+top_stays : (planned : List ℕ) (c d : Nodes) (t : ℕ) (top : Top) → ChangesOnly planned c d → TopStays planned t top
+    → KeepsLink top (c t) (d t)
 top_stays planned c d t from_anchor stays h = tt
 top_stays planned c d t (from_row h g) stays k = ap (λ (n : Node). n.left) (stays t k)
 
-module _ {has : ℕ → Type 0} {planned : List ℕ} {trees : ℕ} {v v' c d : Nodes} {taken given : List ℕ} (view : IsView has planned v v' c d) where
+module _ {has : ℕ → Type 0} {planned : List ℕ} {trees : ℕ} {v v' c d : Nodes} {taken given : List ℕ}
+    (view : IsView has planned v v' c d) where
   pub true_pool : PoolPlan has planned trees v v' taken given → MovesPool trees c d taken given
   true_pool (no_pool none_taken none_given unplanned) = record {
     rest = (c trees).left;
@@ -113,7 +116,8 @@ module _ {has : ℕ → Type 0} {planned : List ℕ} {trees t : ℕ} {top : Top}
   pub new_pairs : pairs_in v' (bare new) ≡ pairs_in d (bare new)
   new_pairs = on_pairs v' d (in_order (bare new)) new_same
 
-  pub true_deed : {setting : Setting} {txn : ℕ} {deed : Deed} {before after : Mode} → ShowsDeed setting txn deed v v' cut new before after
+  pub true_deed : {setting : Setting} {txn : ℕ} {deed : Deed} {before after : Mode}
+      → ShowsDeed setting txn deed v v' cut new before after
       → ShowsDeed setting txn deed c d cut new before after
   true_deed {setting} {txn} {deed} {before} {after} shows =
       let old = true_pairs view.before plan.part in
@@ -133,7 +137,8 @@ abbrev score_in : Mode → ℕ
 score_in (TreeMode s) = s
 score_in (Buffer txn count) = 0
 
-module _ {has : ℕ → Type 0} {planned : List ℕ} {trees rows : ℕ} {top : Top} {v v' c d : Nodes} {mode mode' : ℕ → Mode} {state : List TreeState}
+module _ {has : ℕ → Type 0} {planned : List ℕ} {trees rows : ℕ} {top : Top} {v v' c d : Nodes} {mode mode' : ℕ → Mode}
+    {state : List TreeState}
     {f : Forest} {cut new : Cut} {taken given : List ℕ} (setting : Setting) (txn score : ℕ) (deed : Deed)
     (forest : IsForest trees rows c mode state f) (sound : AllSound state) (tree : tree_of deed < trees)
     (seen : IsSeen c (f.tree (tree_of deed)) top) (full : score ≡ 100 → mode (tree_of deed) ≡ TreeMode 100)
@@ -162,14 +167,17 @@ module _ {has : ℕ → Type 0} {planned : List ℕ} {trees rows : ℕ} {top : T
 
   pub view_relaid : Relaid trees rows c d mode mode' state (after_deed setting txn deed state)
       f (tree_of deed) top cut new
-  view_relaid = event_relaid view_part (true_lays view plan) (true_closed view.before plan.part closed) (true_deed view plan view_deed) other_modes
+  view_relaid =
+      event_relaid view_part (true_lays view plan) (true_closed view.before plan.part closed) (true_deed view plan view_deed) other_modes
 
   pub view_replies : IsReplied setting txn deed state
-  view_replies = deed_replies view_part (true_lays view plan) (true_closed view.before plan.part closed) (true_deed view plan view_deed) other_modes
+  view_replies =
+      deed_replies view_part (true_lays view plan) (true_closed view.before plan.part closed) (true_deed view plan view_deed) other_modes
 
 -- a change of layout alone
 
-module _ {has : ℕ → Type 0} {planned : List ℕ} {trees rows t : ℕ} {top : Top} {v v' c d : Nodes} {mode : ℕ → Mode} {state : List TreeState}
+module _ {has : ℕ → Type 0} {planned : List ℕ} {trees rows t : ℕ} {top : Top} {v v' c d : Nodes} {mode : ℕ → Mode}
+    {state : List TreeState}
     {f : Forest} {cut new : Cut} (forest : IsForest trees rows c mode state f) (sound : AllSound state) (tree : t < trees)
     (tree_mode : IsTree (mode t)) (seen : IsSeen c (f.tree t) top) (view : IsView has planned v v' c d)
     (plan : PlanLays has planned trees t top v v' cut new [] []) (same : pairs_in v' (bare new) ≡ pairs_in v (bare cut)) where

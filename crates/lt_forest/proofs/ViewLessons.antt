@@ -86,7 +86,8 @@ module _ {has : ℕ → Type 0} {v c : Nodes} {trees rows : ℕ} {mode : ℕ →
         k.2,
       )
 
-module _ {has : ℕ → Type 0} {v c : Nodes} {trees rows t : ℕ} {mode : ℕ → Mode} {state : List TreeState} {f : Forest} {top : Top} {cut : Cut}
+module _ {has : ℕ → Type 0} {v c : Nodes} {trees rows t : ℕ} {mode : ℕ → Mode} {state : List TreeState} {f : Forest}
+    {top : Top} {cut : Cut}
     (forest : IsForest trees rows c mode state f) (sound : AllSound state) (tree : t < trees) (tree_mode : IsTree (mode t))
     (seen : IsSeen c (f.tree t) top) (agrees : Agrees has v c) (part : HoldsPart has t top v cut) where
   pub read_has : (p : Pair) → Has p (pairs_in v (bare cut)) → Has p (tree_at state t).pairs

@@ -53,7 +53,8 @@ among r (x ∷ xs) all some = dite (ℕ_discrete x r)
 
 four_further : AllFurther (2 ∷ 4 ∷ 6 ∷ 5 ∷ 3 ∷ 7 ∷ 8 ∷ [])
 four_further =
-    (lit< tt, lit< tt, (lit< tt, lit< tt, (lit< tt, lit< tt, (lit< tt, lit< tt, (lit< tt, lit< tt, (lit< tt, lit< tt, (lit< tt, lit< tt, tt)))))))
+    let vacant : AllFurther (3 ∷ 7 ∷ 8 ∷ []) = (lit< tt, lit< tt, (lit< tt, lit< tt, (lit< tt, lit< tt, tt))) in
+    (lit< tt, lit< tt, (lit< tt, lit< tt, (lit< tt, lit< tt, (lit< tt, lit< tt, vacant))))
 
 four_once : (r : ℕ) → 1 < r → r < 9 → stands 1 four_forest r ≡ 1
 four_once zero lo hi = absurd (omega arith)
@@ -144,7 +145,10 @@ insertion =
       replies = refl;
       question = refl;
     } in
-    record { relaid = event_relaid part lays closed shows (λ s ne. refl); replies = deed_replies part lays closed shows (λ s ne. refl) }
+    record {
+      relaid = event_relaid part lays closed shows (λ s ne. refl);
+      replies = deed_replies part lays closed shows (λ s ne. refl);
+    }
 
 pub merge : WorkedMerge
 unfolding key_le
@@ -173,7 +177,10 @@ merge =
       replies = refl;
       question = refl;
     } in
-    record { relaid = event_relaid part lays closed shows (λ s ne. refl); replies = deed_replies part lays closed shows (λ s ne. refl) }
+    record {
+      relaid = event_relaid part lays closed shows (λ s ne. refl);
+      replies = deed_replies part lays closed shows (λ s ne. refl);
+    }
 
 pub removal : WorkedRemoval
 unfolding key_le
@@ -203,7 +210,10 @@ removal =
     } in
     record {
       widened = widens four 5 narrow 6 (3 ∷ []) [] (refl, refl, refl) refl;
-      works = record { relaid = event_relaid part lays closed shows (λ s ne. refl); replies = deed_replies part lays closed shows (λ s ne. refl) };
+      works = record {
+        relaid = event_relaid part lays closed shows (λ s ne. refl);
+        replies = deed_replies part lays closed shows (λ s ne. refl);
+      };
     }
 
 pub join : WorkedJoin
@@ -233,7 +243,10 @@ join =
       replies = refl;
       question = tt;
     } in
-    record { relaid = event_relaid part lays closed shows (λ s ne. refl); replies = deed_replies part lays closed shows (λ s ne. refl) }
+    record {
+      relaid = event_relaid part lays closed shows (λ s ne. refl);
+      replies = deed_replies part lays closed shows (λ s ne. refl);
+    }
 
 pub question : WorkedQuestion
 unfolding key_le
@@ -259,7 +272,10 @@ question =
       replies = refl;
       question = refl;
     } in
-    record { relaid = event_relaid part lays closed shows (λ s ne. refl); replies = deed_replies part lays closed shows (λ s ne. refl) }
+    record {
+      relaid = event_relaid part lays closed shows (λ s ne. refl);
+      replies = deed_replies part lays closed shows (λ s ne. refl);
+    }
 
 pub rotation : WorkedRotation
 unfolding key_le
