@@ -16,6 +16,7 @@ use Rattle.lt_forest.specs.Plans.{after_deed, IsReplied, Top, from_anchor, from_
 use Rattle.lt_forest.specs.Views.{Agrees, IsView, AllHeld, PlansOnly, TopHeld, TopStays, HoldsPart, PoolPlan, no_pool, from_pool, PlanLays, PlanShows}
 use Rattle.lt_forest.proofs.SameRows.{AgreeOn, on_left, on_right, on_here, on_pairs}
 use Rattle.lt_forest.proofs.EndLaws.{on_ends}
+use Rattle.lt_forest.proofs.OrderLaws.{looser_same}
 use Rattle.lt_forest.proofs.Chains.{on_run}
 use Rattle.lt_forest.proofs.GapLaws.{placed_tree}
 use Rattle.lt_forest.proofs.EventLaws.{score_of, deed_replies, event_relaid, layout_relaid}
@@ -130,6 +131,24 @@ module _ {has : ℕ → Type 0} {planned : List ℕ} {trees t : ℕ} {top : Top}
         replies = ap (λ (l : List Pair). replied setting txn deed (at l)) (sym old) ∙ shows.replies;
         question = shows.question;
       }
+
+-- a plan that changes nothing
+pub unchanged : {has : ℕ → Type 0} {t : ℕ} {top : Top} {v : Nodes} {cut : Cut} (trees : ℕ) → HoldsPart has t top v cut
+    → PlanLays has [] trees t top v v cut cut [] []
+unchanged {t = t} {top = top} {v = v} {cut = cut} trees part = record {
+  part = part;
+  shows = part.shows;
+  new_held = part.rows;
+  loose = looser_same (ends v cut None None);
+  pool = no_pool refl refl refl;
+  rows = record { each = λ q. refl; all = refl };
+  link = none_planned top;
+  others = λ r none. refl;
+}
+  where
+    none_planned : (at : Top) → TopStays [] t at
+    none_planned from_anchor = tt
+    none_planned (from_row h g) = refl
 
 -- a plan for an event
 
