@@ -1,10 +1,9 @@
 -- Buffers: one begins, gets rows, ends as a tree or is dropped whole, and stays where its owner asks who holds.
-use Rattle.std.proofs.Common.{◌≡◌, inl, inr, ℕ, suc, ◌+◌, ◌<◌, ◌≤◌, List, [], ◌∷◌, ◌++◌, map, length, length-append, Bool, true, false, ◌&&◌, ◌==◌, nat_lt, if◌then◌else◌, set, refl, sym, ap, ap₂, ◌∙◌, subst, arith, eq-eqb}
+use Rattle.std.proofs.Common.{◌≡◌, ℕ, ◌+◌, ◌<◌, List, [], ◌∷◌, ◌++◌, map, length, length-append, Bool, true, ◌&&◌, ◌==◌, nat_lt, if◌then◌else◌, set, refl, sym, ap, ap₂, ◌∙◌, subst, arith, eq-eqb}
 use Rattle.std.proofs.lemmas.List.{set-get_or}
 use Rattle.std.proofs.lemmas.Bool.Decides.{nat_tests}
-use Rattle.std.specs.Prelude.{None, nat_eq}
 use Rattle.std.specs.List.{filter}
-use Rattle.lt_ranges.specs.Interval.{Interval, overlap}
+use Rattle.lt_ranges.specs.Interval.{Interval}
 use Rattle.lt_ranges.specs.Numbers.{ascending}
 use Rattle.lt_seq.specs.declared.event.Pair.{Pair}
 use Rattle.lt_seq.specs.declared.event.Mode.{Mode}
@@ -15,18 +14,18 @@ use Rattle.lt_seq.specs.declared.event.Deed.TheVariants.{Ask, Free, Who}
 use Rattle.lt_seq.specs.Pairs.{granted, freed, count_freed, others, is_others}
 use Rattle.lt_seq.specs.Sound.{AllOwn, IsOwned, AllSound}
 use Rattle.lt_seq.specs.Table.{Setting, TreeState, fresh, tree_at, tree_after, replied, tree_of, is_buffered, is_whole, pairs_by, reply_by, raised, mode_asked}
-use Rattle.lt_forest.specs.Counts.{one_if, times}
+use Rattle.lt_forest.specs.Counts.{times}
 use Rattle.lt_forest.specs.Bounds.{Gap}
-use Rattle.lt_forest.specs.Trees.{Node, Tree, leaf, node, Nodes, LeadsTo, in_order, pairs_in}
-use Rattle.lt_forest.specs.Cuts.{Cut, end, bare, links}
+use Rattle.lt_forest.specs.Trees.{Tree, leaf, node, Nodes, LeadsTo, in_order, pairs_in}
+use Rattle.lt_forest.specs.Cuts.{Cut, end, bare}
 use Rattle.lt_forest.specs.Forest.{NoRow, Forest, Growth, search_tree, chain, rows_at, IsTree, IsChain, IsRun, folded, AllOf, Represents, IsForest, GapIn, ChangesOnly, KeepsModes, Becomes}
 use Rattle.lt_forest.specs.Plans.{after_deed, IsReplied, MovesPool}
 use Rattle.lt_forest.specs.Buffers.{whole_free, PutsFirst, Begins, Appends, buffered_state, Ends, Drops}
-use Rattle.lt_forest.proofs.SameRows.{times-++, one_here, one_equal, AgreeOn, on_left, on_right}
+use Rattle.lt_forest.proofs.SameRows.{times-++, AgreeOn, on_left, on_right}
 use Rattle.lt_forest.proofs.Growing.{AllGrow, fill_leads}
 use Rattle.lt_forest.proofs.Chains.{total_has, chain_one, BeginsWith, cut_chain, join_chain, on_chain, on_run, on_owner, on_folded}
 use Rattle.lt_forest.proofs.StateLaws.{used_moves}
-use Rattle.lt_forest.proofs.ForestLaws.{TreeAt, as_tree, tree_represents, ChainAt, as_chain, at_most, one_place, changes_else, Moves, off, Regrows, regrown, regrown_forest, others_placed}
+use Rattle.lt_forest.proofs.ForestLaws.{TreeAt, as_tree, tree_represents, ChainAt, as_chain, one_place, changes_else, Moves, off, Regrows, regrown, regrown_forest, others_placed}
 
 -- no row of the tree has a gap
 abbrev NoGaps : Nodes → Growth → Type 0

@@ -4,7 +4,6 @@ use Rattle.std.specs.List.{filter}
 use Rattle.std.proofs.lemmas.Bool.Decides.{nat_tests}
 use Rattle.lt_ranges.specs.Interval.{Interval, IsInterval}
 use Rattle.lt_seq.specs.declared.event.Pair.{Pair}
-use Rattle.lt_seq.specs.declared.event.Mode.{Mode}
 use Rattle.lt_seq.specs.declared.event.Mode.TheVariants.{Tree as TreeMode, Buffer}
 use Rattle.lt_seq.specs.declared.event.Reply.TheVariants.{Buffered}
 use Rattle.lt_seq.specs.declared.event.Deed.{Deed}

@@ -1,5 +1,5 @@
 -- A plan for an event in Tree mode, and one that changes no pair and no mode, keep the forest.
-use Rattle.std.proofs.Common.{◌≡◌, ℕ, ◌+◌, List, [], length, Bool, true, false, ◌&&◌, nat_lt, if◌then◌else◌, set, refl, sym, ap, ◌∙◌, subst}
+use Rattle.std.proofs.Common.{◌≡◌, ℕ, ◌+◌, List, [], Bool, true, false, ◌&&◌, nat_lt, if◌then◌else◌, refl, sym, ap, ◌∙◌, subst}
 use Rattle.std.proofs.lemmas.List.{set-get_or}
 use Rattle.lt_seq.specs.declared.event.Pair.{Pair}
 use Rattle.lt_seq.specs.declared.event.Mode.{Mode}
@@ -16,7 +16,7 @@ use Rattle.lt_forest.specs.Plans.{after_deed, IsReplied, Top, IsPart, IsClosedFo
 use Rattle.lt_forest.proofs.PairChanges.{NoPair, drops_none, no_change}
 use Rattle.lt_forest.proofs.DeedChanges.{at_score, DeedChange, deed_changes, not_buffered}
 use Rattle.lt_forest.proofs.PartLaws.{part_lawful, part_fewer, part_finds}
-use Rattle.lt_forest.proofs.PlanLaws.{Remakes, relaid}
+use Rattle.lt_forest.proofs.PlanLaws.{relaid}
 
 pub score_of : (mode : Mode) → IsTree mode → (score : ℕ) × (mode ≡ TreeMode score)
 score_of (TreeMode score) is = (score, refl)

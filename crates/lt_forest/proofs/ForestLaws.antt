@@ -1,5 +1,5 @@
 -- A forest in which the growth below one anchor is replaced: the other trees and the rest of the pool stay.
-use Rattle.std.proofs.Common.{◌≡◌, ◌≢◌, inl, inr, ℕ, ◌+◌, ◌<◌, ◌≤◌, List, [], ◌∷◌, length, length-set, Bool, set, refl, sym, ap, ◌∙◌, subst, arith, eq-eqb, ne_eqb, get_or-set_same, get_or-set_other}
+use Rattle.std.proofs.Common.{◌≡◌, ◌≢◌, ℕ, ◌+◌, ◌<◌, ◌≤◌, List, ◌∷◌, length, length-set, Bool, set, refl, sym, ap, ◌∙◌, subst, arith, eq-eqb, ne_eqb, get_or-set_same, get_or-set_other}
 use Rattle.std.specs.Prelude.{None, nat_eq, if◌then◌else◌}
 use mathlib.Core.Logic.{dite}
 use native.Mathlib.Decide.{ℕ_discrete}
@@ -10,10 +10,10 @@ use Rattle.lt_seq.specs.Table.{TreeState, fresh, tree_at}
 use Rattle.lt_forest.specs.Counts.{one_if, times, total}
 use Rattle.lt_forest.specs.Bounds.{Gap}
 use Rattle.lt_forest.specs.Trees.{Node, Tree, Nodes, LeadsTo, pairs_in}
-use Rattle.lt_forest.specs.Forest.{Forest, Growth, search_tree, chain, rows_at, IsTree, IsChain, AllOf, folded, Represents, stands, IsForest, GapIn, IsPlaced, put, ChangesOnly, KeepsModes, Becomes}
+use Rattle.lt_forest.specs.Forest.{Forest, Growth, search_tree, chain, rows_at, IsTree, IsChain, AllOf, folded, Represents, stands, IsForest, GapIn, IsPlaced, put, ChangesOnly, KeepsModes}
 use Rattle.lt_forest.proofs.TreeLaws.{gap_stays, leads_stays, pairs_stay}
 use Rattle.lt_forest.proofs.SameRows.{AgreeOn, on_tree}
-use Rattle.lt_forest.proofs.Chains.{total_has, total_two, total_same, total_change, on_chain, on_owner, on_folded}
+use Rattle.lt_forest.proofs.Chains.{total_has, total_two, total_change, on_chain, on_owner, on_folded}
 
 pub none_else : (q r : ℕ) → q ≢ r → one_if (nat_eq r q) ≡ 0
 none_else q r ne = ap one_if (ne_eqb r q (λ e. ne (sym e)))

@@ -1,17 +1,17 @@
 -- The gaps of rows: each row has one, and a child's is its parent's, cut at the parent's range.
-use Rattle.std.proofs.Common.{◌≡◌, ◌⊎◌, inl, inr, ℕ, ◌+◌, ◌<◌, ◌≤◌, List, ◌∷◌, refl, sym, ap, ◌∙◌, subst, arith, ne_eqb}
+use Rattle.std.proofs.Common.{◌≡◌, inl, inr, ℕ, ◌+◌, ◌<◌, ◌≤◌, List, ◌∷◌, refl, sym, ap, ◌∙◌, subst, arith, ne_eqb}
 use Rattle.std.specs.Prelude.{nat_eq, None}
 use mathlib.Core.Logic.{dite}
 use native.Mathlib.Decide.{ℕ_discrete}
 use Rattle.lt_seq.specs.declared.event.Mode.{Mode}
 use Rattle.lt_seq.specs.declared.event.Mode.TheVariants.{Tree as TreeMode, Buffer}
 use Rattle.lt_seq.specs.Table.{TreeState, tree_at}
-use Rattle.lt_forest.specs.Counts.{one_if, times, total}
+use Rattle.lt_forest.specs.Counts.{one_if, times}
 use Rattle.lt_forest.specs.Bounds.{Bound, Gap, Within}
 use Rattle.lt_forest.specs.Trees.{Tree, leaf, node, Nodes, left_end, right_end, LeadsTo, in_order, IsGap, HasGap}
 use Rattle.lt_forest.specs.Forest.{Forest, Growth, search_tree, chain, rows_at, IsTree, Represents, IsForest, GapIn, IsPlaced}
 use Rattle.lt_forest.proofs.BoundLaws.{greater_same, less_same}
-use Rattle.lt_forest.proofs.SameRows.{times-++, one_here, one_equal}
+use Rattle.lt_forest.proofs.SameRows.{times-++, one_equal}
 use Rattle.lt_forest.proofs.ForestLaws.{TreeAt, as_tree, at_most}
 use Rattle.lt_forest.proofs.Chains.{total_has}
 

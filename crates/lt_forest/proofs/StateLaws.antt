@@ -1,5 +1,5 @@
 -- What a forest tells of its table: how many rows are in use, and what whole trees and chains show.
-use Rattle.std.proofs.Common.{◌≡◌, inl, inr, ℕ, zero, suc, ◌+◌, ◌<◌, List, [], ◌∷◌, length, get_or, refl, sym, ap, ◌∙◌, subst, arith}
+use Rattle.std.proofs.Common.{◌≡◌, ℕ, zero, suc, ◌+◌, ◌<◌, List, [], ◌∷◌, length, get_or, refl, sym, ap, ◌∙◌, subst, arith}
 use Rattle.std.specs.Prelude.{sum_by, None}
 use Rattle.std.proofs.lemmas.List.Sums.{sum_by-cons}
 use Rattle.lt_ranges.specs.Interval.{whole}
@@ -13,12 +13,12 @@ use Rattle.lt_forest.specs.Counts.{total}
 use Rattle.lt_forest.specs.Trees.{Tree, leaf, node, Nodes, pair_of, LeadsTo, in_order, pairs_in, IsOrdered}
 use Rattle.lt_forest.specs.Cuts.{Cut, bare}
 use Rattle.lt_forest.specs.Forest.{Forest, Growth, search_tree, chain, rows_at, IsTree, IsChain, AllOf, folded, Represents, IsForest}
-use Rattle.lt_forest.specs.Plans.{Top, from_anchor, IsPart, IsClosedFor}
+use Rattle.lt_forest.specs.Plans.{from_anchor, IsPart, IsClosedFor}
 use Rattle.lt_forest.proofs.BoundLaws.{over_whole}
 use Rattle.lt_forest.proofs.PairLists.{one_list}
 use Rattle.lt_forest.proofs.TreeOrders.{lawful_ordered}
 use Rattle.lt_forest.proofs.Chains.{total_same, chain_one}
-use Rattle.lt_forest.proofs.ForestLaws.{TreeAt, as_tree, ChainAt, as_chain}
+use Rattle.lt_forest.proofs.ForestLaws.{as_tree, as_chain}
 use Rattle.lt_forest.proofs.PartLaws.{map_long, part_lawful, part_has, part_has_all}
 
 total_front : (f : ℕ → ℕ) (n : ℕ) → total f (suc n) ≡ f 0 + total (λ i. f (suc i)) n

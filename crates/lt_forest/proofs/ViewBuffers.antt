@@ -1,5 +1,5 @@
 -- What a pass holds and plans is true of the forest: plans for buffers.
-use Rattle.std.proofs.Common.{◌≡◌, ℕ, ◌+◌, ◌<◌, List, [], ◌∷◌, ◌++◌, length, Bool, true, set, refl, sym, ap, ◌∙◌, subst, arith}
+use Rattle.std.proofs.Common.{◌≡◌, ℕ, ◌<◌, List, [], ◌∷◌, ◌++◌, length, Bool, true, sym, ap, ◌∙◌, subst, arith}
 use Rattle.lt_ranges.specs.Interval.{Interval}
 use Rattle.lt_seq.specs.declared.event.Pair.{Pair}
 use Rattle.lt_seq.specs.declared.event.Mode.{Mode}
@@ -7,13 +7,12 @@ use Rattle.lt_seq.specs.declared.event.Mode.TheVariants.{Buffer}
 use Rattle.lt_seq.specs.declared.event.Reply.TheVariants.{Buffered}
 use Rattle.lt_seq.specs.declared.event.Deed.{Deed}
 use Rattle.lt_seq.specs.declared.event.Deed.TheVariants.{Ask, Free}
-use Rattle.lt_seq.specs.Table.{Setting, TreeState, tree_at, tree_after, replied, tree_of, is_whole}
+use Rattle.lt_seq.specs.Table.{Setting, TreeState, tree_after, replied, tree_of, is_whole}
 use Rattle.lt_forest.specs.Plans.{after_deed, IsReplied}
-use Rattle.lt_forest.specs.Counts.{times}
-use Rattle.lt_forest.specs.Trees.{Node, Nodes, in_order, pairs_in}
+use Rattle.lt_forest.specs.Trees.{Node, Nodes, in_order}
 use Rattle.lt_forest.specs.Cuts.{Cut, Shows, bare}
 use Rattle.lt_forest.specs.Forest.{NoRow, Forest, IsChain, folded, IsForest, ChangesOnly, KeepsModes, Becomes}
-use Rattle.lt_forest.specs.Buffers.{whole_free, PutsFirst, Begins, Appends, buffered_state, Ends, Drops}
+use Rattle.lt_forest.specs.Buffers.{whole_free, PutsFirst, Begins, Appends, Ends, Drops}
 use Rattle.lt_forest.specs.Views.{Agrees, IsView, AllHeld, PlansThese, PlanEnds, PlanDrops}
 use Rattle.lt_forest.proofs.SameRows.{times-++, one_here, AgreeOn, on_right, on_pairs}
 use Rattle.lt_forest.proofs.Chains.{on_chain, on_folded}

@@ -1,5 +1,5 @@
 -- What a pass holds and plans is true of the forest: parts, plans for events, and changes of layout.
-use Rattle.std.proofs.Common.{◌≡◌, ℕ, ◌+◌, ◌<◌, List, [], ◌∷◌, ◌++◌, set, refl, sym, ap, ◌∙◌, subst, arith}
+use Rattle.std.proofs.Common.{◌≡◌, ℕ, ◌+◌, ◌<◌, List, [], ◌∷◌, ◌++◌, refl, sym, ap, ◌∙◌, subst}
 use Rattle.std.specs.Prelude.{None}
 use Rattle.lt_ranges.specs.Interval.{Interval}
 use Rattle.lt_seq.specs.declared.event.Pair.{Pair}
@@ -7,8 +7,7 @@ use Rattle.lt_seq.specs.declared.event.Mode.{Mode}
 use Rattle.lt_seq.specs.declared.event.Mode.TheVariants.{Tree as TreeMode, Buffer}
 use Rattle.lt_seq.specs.declared.event.Deed.{Deed}
 use Rattle.lt_seq.specs.Sound.{AllSound}
-use Rattle.lt_seq.specs.Table.{Setting, TreeState, tree_at, tree_after, replied, tree_of}
-use Rattle.lt_forest.specs.Counts.{times}
+use Rattle.lt_seq.specs.Table.{Setting, TreeState, tree_after, replied, tree_of}
 use Rattle.lt_forest.specs.Trees.{Node, Nodes, in_order, pairs_in}
 use Rattle.lt_forest.specs.Cuts.{Cut, end, held, Shows, bare, End, ends, Looser, AllAside}
 use Rattle.lt_forest.specs.Forest.{Forest, IsTree, IsRun, IsForest, ChangesOnly, KeepsModes}

@@ -1,14 +1,14 @@
 -- What is true of buffers, and of the plans that change them.
-use Rattle.std.specs.Prelude.{◌≡◌, ℕ, ◌<◌, List, [], ◌∷◌, ◌++◌, length, slice_set, Bool, true}
+use Rattle.std.specs.Prelude.{◌≡◌, ℕ, ◌<◌, List, [], ◌∷◌, ◌++◌, length, Bool, true}
 use Rattle.lt_ranges.specs.Interval.{Interval}
 use Rattle.lt_seq.specs.declared.event.Mode.{Mode}
 use Rattle.lt_seq.specs.declared.event.Mode.TheVariants.{Buffer}
 use Rattle.lt_seq.specs.declared.event.Reply.TheVariants.{Buffered}
 use Rattle.lt_seq.specs.declared.event.Deed.{Deed}
-use Rattle.lt_seq.specs.declared.event.Deed.TheVariants.{Ask, Free, Who}
+use Rattle.lt_seq.specs.declared.event.Deed.TheVariants.{Ask, Who}
 use Rattle.lt_seq.specs.Pairs.{granted}
 use Rattle.lt_seq.specs.Sound.{AllSound}
-use Rattle.lt_seq.specs.Table.{Setting, TreeState, tree_at, tree_after, replied, tree_of, is_whole}
+use Rattle.lt_seq.specs.Table.{Setting, TreeState, tree_at, tree_of, is_whole}
 use Rattle.lt_forest.specs.Trees.{Nodes, in_order}
 use Rattle.lt_forest.specs.Cuts.{Cut, bare}
 use Rattle.lt_forest.specs.Forest.{NoRow, Forest, IsChain, AllOf, folded, IsForest, ChangesOnly, KeepsModes, Becomes}

@@ -1,15 +1,15 @@
 -- What is true of a forest by what one pass holds and shows. Here has finds the rows that the pass holds, v is what they show,
 -- and v' what they show with the images of its plan.
-use Rattle.std.specs.Prelude.{◌≡◌, ◌≢◌, ◌⊎◌, ℕ, ◌+◌, ◌<◌, List, [], ◌∷◌, ◌++◌, length, slice_set, Bool, true, None}
+use Rattle.std.specs.Prelude.{◌≡◌, ◌≢◌, ◌⊎◌, ℕ, ◌+◌, ◌<◌, List, [], ◌∷◌, ◌++◌, length, Bool, true, None}
 use Rattle.lt_ranges.specs.Interval.{Interval, overlap, whole}
 use Rattle.lt_seq.specs.declared.event.Pair.{Pair}
 use Rattle.lt_seq.specs.declared.event.Mode.{Mode}
 use Rattle.lt_seq.specs.declared.event.Mode.TheVariants.{Tree as TreeMode, Buffer}
 use Rattle.lt_seq.specs.declared.event.Reply.TheVariants.{Buffered}
 use Rattle.lt_seq.specs.declared.event.Deed.{Deed}
-use Rattle.lt_seq.specs.declared.event.Deed.TheVariants.{Ask, Free}
+use Rattle.lt_seq.specs.declared.event.Deed.TheVariants.{Ask}
 use Rattle.lt_seq.specs.Sound.{AllSound}
-use Rattle.lt_seq.specs.Table.{Setting, TreeState, tree_at, tree_after, replied, tree_of, is_whole, used}
+use Rattle.lt_seq.specs.Table.{Setting, TreeState, tree_at, tree_of, is_whole, used}
 use Rattle.lt_forest.specs.Bounds.{Gap}
 use Rattle.lt_forest.specs.Changes.{Has}
 use Rattle.lt_forest.specs.Trees.{Nodes, left_end, right_end, in_order, pairs_in}

@@ -1,5 +1,5 @@
 -- Parts of search trees, and plans that lay them anew. Here c is what the rows hold before a plan, and d after it.
-use Rattle.std.specs.Prelude.{◌≡◌, ℕ, ◌+◌, ◌<◌, List, [], ◌∷◌, ◌++◌, length, slice_set, Bool, false, None}
+use Rattle.std.specs.Prelude.{◌≡◌, ℕ, ◌+◌, ◌<◌, List, ◌∷◌, ◌++◌, length, slice_set, Bool, false, None}
 use Rattle.lt_ranges.specs.Interval.{Interval, whole}
 use Rattle.lt_seq.specs.declared.event.Pair.{Pair}
 use Rattle.lt_seq.specs.declared.event.Mode.{Mode}
@@ -13,7 +13,7 @@ use Rattle.lt_forest.specs.Bounds.{Gap, IsInside}
 use Rattle.lt_forest.specs.Changes.{IsLocal}
 use Rattle.lt_forest.specs.Trees.{Node, Nodes, in_order, pairs_in}
 use Rattle.lt_forest.specs.Cuts.{Cut, Shows, bare, IsRow, HasCutGap, ends, Looser, AllAside}
-use Rattle.lt_forest.specs.Forest.{Growth, Forest, IsTree, IsRun, IsForest, GapIn, IsPlaced, ChangesOnly, KeepsModes, Becomes}
+use Rattle.lt_forest.specs.Forest.{Growth, Forest, IsTree, IsRun, IsForest, GapIn, ChangesOnly, Becomes}
 
 -- from where a part hangs: from its tree's anchor, or from a row of the tree with the gap that was seen for it
 pub data Top : Type 0 where

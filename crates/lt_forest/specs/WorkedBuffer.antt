@@ -5,11 +5,11 @@ use Rattle.lt_ranges.specs.Interval.{whole}
 use Rattle.lt_seq.specs.declared.event.Pair.{Pair}
 use Rattle.lt_seq.specs.declared.event.Mode.{Mode}
 use Rattle.lt_seq.specs.declared.event.Mode.TheVariants.{Tree as TreeMode, Buffer}
-use Rattle.lt_seq.specs.declared.event.Reply.TheVariants.{Granted, Buffered}
+use Rattle.lt_seq.specs.declared.event.Reply.TheVariants.{Granted}
 use Rattle.lt_seq.specs.declared.event.Deed.TheVariants.{Ask, Free}
 use Rattle.lt_seq.specs.Table.{Setting, TreeState, tree_at, replied}
 use Rattle.lt_forest.specs.Trees.{Nodes}
-use Rattle.lt_forest.specs.Forest.{NoRow, Forest, Becomes}
+use Rattle.lt_forest.specs.Forest.{NoRow, Becomes}
 use Rattle.lt_forest.specs.Openings.{IsOpening, opening_forest}
 use Rattle.lt_forest.specs.WorkedTrees.{at, pair, holds, leads, nodes_in, tree_modes, with_images}
 
