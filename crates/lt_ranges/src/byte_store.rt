@@ -1,5 +1,5 @@
 //! A few bytes in a store of fixed size.
-ghost use Rattle.std.specs.Prelude.{◌≡◌, ℕ, ◌+◌, ◌-◌, ◌<◌, ◌≤◌, ◌↔◌, List, [], ◌∷◌, ◌++◌, length, take, replicate, IsTrue};
+ghost use Rattle.std.specs.Prelude.{◌≡◌, ◌<◌, ◌≤◌, ◌↔◌, [], ◌∷◌, ◌++◌, length, IsTrue};
 ghost use Rattle.lt_ranges.specs.Numbers.{AreBytes};
 
 use std::marker::Model;

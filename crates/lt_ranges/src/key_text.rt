@@ -1,5 +1,5 @@
 //! The text of a key, in a store of fixed size.
-ghost use Rattle.std.specs.Prelude.{◌≡◌, ℕ, ◌+◌, ◌*◌, ◌<◌, ◌≤◌, List, [], ◌∷◌, ◌++◌, length};
+ghost use Rattle.std.specs.Prelude.{◌≡◌, ◌+◌, ◌<◌, ◌≤◌, [], ◌∷◌, ◌++◌, length};
 ghost use Rattle.lt_ranges.specs.KeyText.{byte_text, quoted};
 ghost use Rattle.lt_ranges.specs.Numbers.{AreBytes};
 
@@ -72,12 +72,12 @@ impl KeyText {
         } else {
             self.push(b'\\');
             self.push(b'x');
-            self.push(byte_text::hexadecimal(byte / 16));
-            self.push(byte_text::hexadecimal(byte % 16));
+            self.push(byte_text::digit(byte / 16));
+            self.push(byte_text::digit(byte % 16));
         }
     }
 
-    /// The bytes of the text, all of them printed characters.
+    /// The bytes of the text.
     pub fn as_slice(&self) -> &[u8]
         ensures value { result.now ≡ self.now }
         ensures bound { length self.now ≤ 255 }

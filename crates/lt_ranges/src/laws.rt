@@ -5,23 +5,23 @@ ghost use Rattle.lt_ranges.specs.declared.key.Key.{Key};
 ghost use Rattle.lt_ranges.specs.Key.{key_cmp, key_le, begins_with};
 ghost use Rattle.lt_ranges.specs.KeyText.{key_text, IsOfBytes};
 
-#[tactic(auto, using(crate::specs::KeyOrder::key_total, crate::proofs::KeyLaws::le_both))]
 /// Keys stand in one total order, and keys that tie are the same key.
+#[tactic(auto, using(crate::specs::KeyOrder::key_total, crate::proofs::KeyLaws::le_both))]
 pub fn keys_are_in_order()
     ensures total { IsTotalOrder key_cmp }
     ensures ties { (x y : Key) → IsTrue (key_le x y) → IsTrue (key_le y x) → x ≡ y }
 {}
 
-#[tactic(auto, using(crate::proofs::PrefixLaws::prefix_above, crate::proofs::PrefixLaws::prefix_below))]
 /// The end of the keys that begin with some bytes lies above each of them, and below every other
 /// key that is greater than these bytes.
+#[tactic(auto, using(crate::proofs::PrefixLaws::prefix_above, crate::proofs::PrefixLaws::prefix_below))]
 pub fn prefix_endpoints_come_last()
     ensures above { (front : List ℕ) (key : Key) → IsTrue (begins_with front key) → IsTrue (key_le key (Key.After front)) }
     ensures below { (front : List ℕ) (key : Key) → begins_with front key ≡ false → IsTrue (key_le (Key.Bytes front) key) → key_le key (Key.After front) ≡ false }
 {}
 
-#[tactic(auto, using(crate::proofs::KeyTextLaws::text_once))]
 /// No two keys have one text.
+#[tactic(auto, using(crate::proofs::KeyTextLaws::text_once))]
 pub fn texts_are_unique()
     ensures { (x y : Key) → IsOfBytes x → IsOfBytes y → key_text x ≡ key_text y → x ≡ y }
 {}

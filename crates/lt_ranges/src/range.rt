@@ -1,4 +1,4 @@
-//! Ranges of keys.
+//! Ranges of keys, both ends included.
 ghost use Rattle.std.specs.Prelude.{◌≡◌, ◌↔◌, IsTrue, IsErr, IfOk};
 ghost use Rattle.lt_ranges.specs.Key.{key_le};
 ghost use Rattle.lt_ranges.specs.Interval.{Interval, IsInterval, overlap, before, covers, hull, whole};
@@ -36,7 +36,7 @@ impl Model for KeyRange {
 }
 
 impl KeyRange {
-    /// The range from left to right.
+    /// The range from `left` to `right`, refused where `left` is the greater of the two.
     #[tactic(auto, unfolding(crate::specs::Key::key_le))]
     pub fn new(left: Key, right: Key) -> Result<KeyRange, Backwards>
         ensures refused { IsErr result ↔ (¬ IsTrue (key_le left right)) }
@@ -49,7 +49,7 @@ impl KeyRange {
         }
     }
 
-    /// The range of all places.
+    /// The range of all keys, from `Below` to `Above`.
     #[tactic(auto, unfolding(crate::specs::Key::key_le))]
     pub fn whole() -> KeyRange
         ensures { result ≡ whole }
@@ -60,6 +60,7 @@ impl KeyRange {
         }
     }
 
+    /// The left end, which is at most the right one.
     pub fn left(&self) -> Key
         ensures value { result ≡ self.now.left }
         ensures ordered { IsInterval self.now }
@@ -67,6 +68,7 @@ impl KeyRange {
         self.left
     }
 
+    /// The right end, which is at least the left one.
     pub fn right(&self) -> Key
         ensures value { result ≡ self.now.right }
         ensures ordered { IsInterval self.now }
@@ -74,6 +76,7 @@ impl KeyRange {
         self.right
     }
 
+    /// Whether some key lies in both ranges. A shared end is enough.
     #[tactic(auto, unfolding(crate::specs::Key::key_le))]
     pub fn overlaps(&self, other: &KeyRange) -> bool
         ensures { result ≡ overlap self.now other.now }
@@ -81,6 +84,7 @@ impl KeyRange {
         self.left <= other.right && other.left <= self.right
     }
 
+    /// Whether all of the other range lies in this one.
     #[tactic(auto, unfolding(crate::specs::Key::key_le))]
     pub fn covers(&self, other: &KeyRange) -> bool
         ensures { result ≡ covers self.now other.now }
@@ -98,6 +102,7 @@ impl KeyRange {
         }
     }
 
+    /// How this range stands to the other. Of two that don't overlap, one lies before the other.
     #[tactic(auto, using(crate::proofs::IntervalLaws::apart_left, crate::proofs::IntervalLaws::apart_right))]
     pub fn compare(&self, other: &KeyRange) -> RangeOrder
         ensures { IsOrderOf self.now other.now result }

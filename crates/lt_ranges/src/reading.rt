@@ -1,5 +1,5 @@
 //! The bytes that a key's text spells.
-ghost use Rattle.std.specs.Prelude.{◌≡◌, ℕ, ◌<◌, ◌≤◌, List, length, IfOk, IfErr};
+ghost use Rattle.std.specs.Prelude.{◌≡◌, ◌≤◌, length, IfOk, IfErr};
 ghost use Rattle.lt_ranges.specs.KeyText.{spelled, quoted};
 ghost use Rattle.lt_ranges.specs.TextFault.{IsFaultOf};
 ghost use Rattle.lt_ranges.specs.Numbers.{AreBytes};

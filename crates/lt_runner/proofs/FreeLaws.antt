@@ -8,8 +8,8 @@ use Rattle.lt_seq.specs.declared.event.Event.{Event}
 use Rattle.lt_seq.specs.Table.{Setting}
 use Rattle.lt_seq.specs.Yard.{event_after}
 use Rattle.lt_runner.specs.declared.release.Release.{Release}
-use Rattle.lt_runner.specs.TurnView.{Turn, Recorded}
-use Rattle.lt_runner.specs.Turn.{releases_by, releases_in, releases_from, nothing_recorded}
+use Rattle.lt_runner.specs.TurnView.{Recorded}
+use Rattle.lt_runner.specs.Turn.{releases_by, releases_in, releases_from}
 use Rattle.lt_runner.specs.AtOnce.{freed, owed_in, HasPlaces}
 
 -- frees in two pieces

@@ -4,3 +4,6 @@ pub mod PlaceLaws
 pub mod QuietLaws
 pub mod LineLaws
 pub mod ScheduleLaws
+pub mod OpeningLaws
+pub mod TraceLaws
+pub mod ClosingLaws

@@ -1,5 +1,5 @@
 -- What the scheduler does at a line, where no turn waits.
-use Rattle.std.proofs.Common.{◌≡◌, ℕ, ◌+◌, ◌<◌, ◌≤◌, List, [], ◌∷◌, ◌++◌, Bool, true, false, ◌==◌, if◌then◌else◌, Option, Some, None, is_some, length, nat_lt, get_or, slice_set, sum_by, nat_cmp, refl, sym, ap, subst, ◌∙◌, append-nil, arith}
+use Rattle.std.proofs.Common.{◌≡◌, ℕ, ◌+◌, ◌<◌, ◌≤◌, List, [], ◌∷◌, ◌++◌, Bool, true, false, if◌then◌else◌, Option, Some, None, is_some, length, nat_lt, get_or, slice_set, nat_cmp, refl, sym, ap, subst, ◌∙◌, append-nil, arith}
 use Rattle.std.specs.List.{All}
 use Rattle.std.specs.List.Sorted.{IsStrictlySortedBy}
 use Rattle.std.proofs.Math.Seq.{map-set_same}
@@ -22,11 +22,10 @@ use Rattle.lt_history.specs.declared.outcome.Outcome.{Outcome}
 use Rattle.lt_history.specs.declared.outcome.Outcome.TheVariants.{Done, OutOfLocks}
 use Rattle.lt_runner.specs.declared.release.Release.{Release}
 use Rattle.lt_runner.specs.TurnView.{Turn, Recorded}
-use Rattle.lt_runner.specs.Turn.{Move, frees, asks, stops, ends, releases_from, ending, answered_by, reply_in, nothing_recorded, rest_of_release}
-use Rattle.lt_runner.specs.Attempt.{bar_of}
+use Rattle.lt_runner.specs.Turn.{Move, frees, asks, stops, releases_from, ending, answered_by, reply_in, nothing_recorded, rest_of_release}
 use Rattle.lt_runner.specs.Serial.{Game, game_at, settled, takes_line, turn_of, with_turn, does, gives_back, settles, plays_line, line_move, added}
-use Rattle.lt_runner.specs.AtOnce.{IsQuiet, IsPlain, Step, step_at, freed, ended_by, asked, lined, played_by, owed_in, owed, numbers_of}
-use Rattle.lt_runner.proofs.TurnsLaws.{with_turn_twice, on_true, on_false, turn_of_at, with_turn_at}
+use Rattle.lt_runner.specs.AtOnce.{IsQuiet, IsPlain, Step, step_at, freed, ended_by, lined, played_by, owed_in, owed, numbers_of}
+use Rattle.lt_runner.proofs.TurnsLaws.{with_turn_twice, on_true, turn_of_at, with_turn_at}
 use Rattle.lt_runner.proofs.QuietLaws.{settled_quiet}
 use Rattle.lt_runner.proofs.FreeLaws.{length-freed, length-releases_from}
 

@@ -1,5 +1,5 @@
 -- Where a transaction is among the turns.
-use Rattle.std.proofs.Common.{◌≡◌, ℕ, zero, suc, ◌+◌, ◌<◌, ◌≤◌, List, [], ◌∷◌, None, drop, Bool, true, false, ◌==◌, ◌||◌, nat_lt, if◌then◌else◌, map, length, get_or, Result, Ok, Err, refl, sym, ap, subst, ◌∙◌, ◌⊎◌, inl, inr, cond, arith, IsTrue}
+use Rattle.std.proofs.Common.{◌≡◌, ℕ, suc, ◌+◌, ◌<◌, ◌≤◌, List, [], ◌∷◌, None, drop, Bool, true, false, ◌==◌, ◌||◌, nat_lt, if◌then◌else◌, map, length, get_or, Err, refl, sym, ap, ◌∙◌, inl, inr, cond, arith, IsTrue}
 use Rattle.std.specs.Ordering.{nat_cmp, ordering_index, match_ordering}
 use Rattle.std.specs.declared.cmp.Ordering.TheVariants.{Less, Equal, Greater}
 use Rattle.std.specs.List.{fold, HoldsAt}
@@ -10,7 +10,7 @@ use Rattle.std.proofs.lemmas.Bool.{cases_lt}
 use Rattle.std.proofs.lemmas.Cmp.{ranked}
 use Rattle.std.proofs.lemmas.List.{get_or-map, length-map, at_drop_more}
 use Rattle.std.proofs.lemmas.Map.Keys.{below_from_sorted}
-use Rattle.lt_ranges.specs.Numbers.{is_in, with_number, ascending}
+use Rattle.lt_ranges.specs.Numbers.{is_in, with_number}
 use Rattle.lt_trace.specs.declared.line.Line.{Line}
 use Rattle.lt_runner.specs.TurnView.{Turn}
 use Rattle.lt_runner.specs.AtOnce.{numbers_of}

@@ -1,9 +1,9 @@
 -- Steps of one turn among the others.
-use Rattle.std.proofs.Common.{◌≡◌, ℕ, zero, suc, ◌+◌, ◌<◌, ◌≤◌, List, [], ◌∷◌, Bool, true, false, ◌==◌, ◌&&◌, not, Option, Some, None, is_some, is_none, if◌then◌else◌, map, length, get_or, slice_set, nat_cmp, refl, sym, ap, subst, ◌∙◌, arith, ◌⊎◌, inl, inr}
+use Rattle.std.proofs.Common.{◌≡◌, ℕ, zero, suc, ◌+◌, ◌<◌, ◌≤◌, List, [], ◌∷◌, Bool, true, false, ◌&&◌, not, Option, Some, None, is_some, is_none, if◌then◌else◌, length, get_or, slice_set, nat_cmp, refl, sym, ap, subst, ◌∙◌, arith}
 use Rattle.std.specs.List.{All, AllWithin, fold, find}
 use Rattle.std.specs.List.Sorted.{IsStrictlySortedBy}
 use Rattle.std.proofs.Math.Seq.{map-set_same}
-use Rattle.std.proofs.lemmas.List.{length-set, length-map, set-get_or, get_or-set_same, get_or-set_other}
+use Rattle.std.proofs.lemmas.List.{length-set, set-get_or}
 use Rattle.std.proofs.lemmas.List.Elements.{All-set, All-head, All-tail}
 use Rattle.std.proofs.lemmas.List.Sums.{sum_by-set}
 use Rattle.lt_seq.specs.declared.event.Event.{Event}
@@ -15,10 +15,10 @@ use Rattle.lt_runner.specs.TurnView.{Turn}
 use Rattle.lt_history.specs.declared.outcome.Outcome.{Outcome}
 use Rattle.lt_runner.specs.Plays.{end_of}
 use Rattle.lt_runner.specs.Serial.{Game, game_at, is_ready, settled, takes_line, ends_first, ends_one}
-use Rattle.lt_runner.specs.AtOnce.{IsQuiet, IsPlain, AreQuiet, IsPlayable, Step, step_at, lined, played_by, owed, owed_by, numbers_of, HasEnded}
+use Rattle.lt_runner.specs.AtOnce.{IsQuiet, IsPlain, AreQuiet, Step, step_at, lined, played_by, owed, owed_by, numbers_of, HasEnded}
 use Rattle.lt_runner.proofs.TurnsLaws.{on_true, on_false}
 use Rattle.lt_runner.proofs.QuietLaws.{swept_quiet, settled_still}
-use Rattle.lt_runner.proofs.LineLaws.{Keeps, gain_of, gain_most, keeps_played, takes_line_at, taken_choice}
+use Rattle.lt_runner.proofs.LineLaws.{Keeps, gain_of, keeps_played, takes_line_at, taken_choice}
 
 -- A turn was played in its place.
 pub record IsPlayed (setting : Setting) (deed : LineDeed) (turns : List Turn) (events new_events : List Event) (place : ℕ) (d new : Turn) : Type 0 where

@@ -1,5 +1,5 @@
 -- What a line comes to where no turn waits: all of it happens at once.
-use Rattle.std.specs.Prelude.{◌≡◌, ℕ, ◌+◌, ◌^◌, ◌<◌, ◌≤◌, List, [], ◌∷◌, ◌++◌, length, map, sum_by, Option, Some, None, Bool, true, false, is_none, is_some, nat_lt, if◌then◌else◌, IsTrue}
+use Rattle.std.specs.Prelude.{◌≡◌, ℕ, ◌+◌, ◌^◌, ◌<◌, ◌≤◌, List, [], ◌∷◌, ◌++◌, length, map, sum_by, replicate, Some, None, false, is_some, nat_lt, if◌then◌else◌, IsTrue}
 use Rattle.std.specs.List.{All}
 use Rattle.std.specs.List.Sorted.{IsStrictlySortedBy}
 use Rattle.std.specs.Ordering.{nat_cmp}
@@ -14,11 +14,12 @@ use Rattle.lt_seq.specs.Yard.{PassView, HasAll, IsPlan, place_after, event_after
 use Rattle.lt_trace.specs.declared.line.Line.{Line}
 use Rattle.lt_trace.specs.declared.line.LineDeed.{LineDeed}
 use Rattle.lt_trace.specs.declared.line.LineDeed.TheVariants.{Try, Lock, End, Abort, Escalate, Big}
+use Rattle.lt_trace.specs.Grammar.{txns_of}
 use Rattle.lt_history.specs.declared.outcome.Outcome.{Outcome}
 use Rattle.lt_history.specs.declared.outcome.Outcome.TheVariants.{Done, OutOfLocks}
 use Rattle.lt_runner.specs.declared.release.Release.{Release}
 use Rattle.lt_runner.specs.TurnView.{Turn, Recorded}
-use Rattle.lt_runner.specs.Turn.{answered_by, reply_in, releases_from}
+use Rattle.lt_runner.specs.Turn.{answered_by, reply_in, releases_from, nothing_recorded}
 use Rattle.lt_runner.specs.Attempt.{bar_of}
 
 -- the pass has number 0 and all the rights, and has seen a legal history
@@ -111,10 +112,28 @@ pub record AreQuiet (setting : Setting) (turns : List Turn) : Type 0 where
   pub sorted : IsStrictlySortedBy nat_cmp (numbers_of turns)
   pub quiet : All (IsQuiet setting) turns
 
--- the line is played so, and is of one of these transactions
+-- the line is of one of these transactions
 pub record IsPlayable (setting : Setting) (txns : List ℕ) (line : Line) : Type 0 where
   pub plain : IsPlain setting line.deed
   pub there : IsTrue (is_in line.txn txns)
 
+-- the line is one of a trace
+pub record IsOfTrace (setting : Setting) (line : Line) : Type 0 where
+  pub txn : 1 ≤ line.txn
+  pub plain : IsPlain setting line.deed
+
+-- a turn before its first line
+abbrev pub fresh_turn : ℕ → ℕ → Turn
+fresh_turn trees txn =
+    record { txn = txn; lines = []; waits = false; recorded = replicate trees nothing_recorded; outcome = None; releases = []; big = false }
+
 abbrev pub HasEnded : Turn → Type 0
 HasEnded turn = IsTrue (is_some turn.outcome)
+
+-- they are the turns of these lines before the first one
+pub record AreOpening (setting : Setting) (lines : List Line) (turns : List Turn) : Type 0 where
+  pub fresh : turns ≡ map (fresh_turn setting.plan.trees) (txns_of lines)
+  pub stand : AreQuiet setting turns
+  pub numbers : numbers_of turns ≡ txns_of lines
+  pub playable : All (IsPlayable setting (numbers_of turns)) lines
+  pub owed : owed_by turns ≡ 0

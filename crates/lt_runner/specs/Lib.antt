@@ -7,3 +7,4 @@ pub mod Rows
 pub mod Run
 pub mod Played
 pub mod AtOnce
+pub mod Transcript

@@ -10,7 +10,7 @@ use Rattle.lt_seq.specs.declared.plan.YardPlan.{YardPlan}
 use Rattle.lt_seq.specs.Table.{Setting, used}
 use Rattle.lt_seq.specs.History.{after}
 use Rattle.lt_seq.specs.Yard.{place_after}
-use Rattle.lt_seq.specs.Questions.{receipt_after, receipts_after, events_of, named_by, all_receipts}
+use Rattle.lt_seq.specs.Questions.{receipt_after, events_of, named_by, all_receipts}
 use Rattle.lt_trace.specs.declared.line.Line.{Line}
 use Rattle.lt_trace.specs.declared.line.LineDeed.{LineDeed}
 use Rattle.lt_trace.specs.declared.line.LineDeed.TheVariants.{Try, Lock, End, Abort, Escalate, Big}
@@ -23,7 +23,7 @@ use Rattle.lt_history.specs.Text.{text}
 use Rattle.lt_runner.specs.declared.release.Release.{Release}
 use Rattle.lt_runner.specs.TurnView.{Turn}
 use Rattle.lt_runner.specs.Turn.{Move, asks, waits, stops, escalates, grows, ends, frees, receipts_in, turn_after, reply_in}
-use Rattle.lt_runner.specs.Attempt.{all_trees, bar_of}
+use Rattle.lt_runner.specs.Attempt.{bar_of}
 use Rattle.lt_runner.specs.Plays.{is_held, wish_for, end_of, opening_turn}
 
 -- all that the scheduler keeps

@@ -1,6 +1,8 @@
 //! Transactions as they are played.
 ghost use Rattle.std.specs.Prelude.{◌≡◌, ◌<◌, ◌≤◌, [], ◌∷◌, ◌++◌, None, Some, false, length, replicate, slice_set, slice_index_or, IfOk, OnOk, is_some};
 ghost use Rattle.lt_runner.specs.Turn.{answered_by, nothing_recorded, reply_in};
+ghost use Rattle.lt_runner.specs.Serial.{ended_in};
+ghost use Rattle.lt_runner.specs.AtOnce.{fresh_turn};
 
 use lt_history::{Ended, Outcome};
 use lt_ranges::KeyRange;
@@ -76,7 +78,7 @@ impl Model for Turn {
 impl Turn {
     /// A transaction before its first line.
     pub(crate) fn new(alloc: Global, txn: u64, trees: u32) -> Result<Turn, AllocError>
-        ensures { IfOk result (λ turn. turn ≡ record { txn = txn; lines = []; waits = false; recorded = replicate trees nothing_recorded; outcome = None; releases = []; big = false }) }
+        ensures { IfOk result (λ turn. turn ≡ fresh_turn trees txn) }
     {
         Ok(Turn {
             txn,
@@ -122,5 +124,16 @@ impl Turn {
             _ => false,
         };
         self.recorded[tree as usize].add(range, buffered)
+    }
+
+    /// How it ended, once it has.
+    pub(crate) fn into_ended(self) -> Option<Ended>
+        ensures { result ≡ ended_in self }
+    {
+        let outcome = self.outcome?;
+        Some(Ended {
+            txn: self.txn,
+            outcome,
+        })
     }
 }

@@ -1,7 +1,7 @@
 //! The plain work on one tree's pairs, which stand in the order of their left ends.
-ghost use Rattle.std.specs.Prelude.{◌≡◌, ℕ, ◌≤◌, ◌+◌, ◌++◌, length, map, insert, OnOk, OnErr, IfOk, vec_len, vec_capacity};
+ghost use Rattle.std.specs.Prelude.{◌≡◌, ◌≤◌, ◌++◌, length, insert, OnOk, OnErr, IfOk, vec_len, vec_capacity};
 ghost use Rattle.lt_seq.specs.declared.event.Pair.{Pair};
-ghost use Rattle.lt_seq.specs.Pairs.{is_own, is_others, others, freed, count_freed, span, with_pair, granted};
+ghost use Rattle.lt_seq.specs.Pairs.{is_own, others, freed, count_freed, span, with_pair, granted};
 ghost use Rattle.lt_seq.specs.SeqPass.{held_in};
 
 use crate::event::{Held, Pair};

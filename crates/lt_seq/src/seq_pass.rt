@@ -1,11 +1,11 @@
 //! The pass of the plain table.
-ghost use Rattle.std.specs.Prelude.{◌≡◌, ℕ, ◌+◌, ◌^◌, ◌≤◌, ◌<◌, List, [], ◌∷◌, ◌++◌, replicate, length, slice_set, OnOk, OnErr, IfOk};
+ghost use Rattle.std.specs.Prelude.{◌≡◌, ◌^◌, ◌≤◌, ◌<◌, [], replicate, length, slice_set, OnOk, OnErr, IfOk};
 ghost use Rattle.lt_seq.specs.declared.event.Deed.TheVariants.{Ask, Free};
 ghost use Rattle.lt_seq.specs.declared.event.Reply.TheVariants.{Granted};
-ghost use Rattle.lt_seq.specs.Table.{TreeState, fresh, tree_at, ask_reply, after_ask, free_count, after_free};
-ghost use Rattle.lt_seq.specs.Yard.{shows, place_after, OneMore, IsSound, IsPlan, HasAll};
+ghost use Rattle.lt_seq.specs.Table.{fresh, tree_at, ask_reply, after_ask, free_count, after_free};
+ghost use Rattle.lt_seq.specs.Yard.{shows, place_after, OneMore, IsSound, IsPlan};
 ghost use Rattle.lt_seq.specs.Passes.{IsRest, held_from};
-ghost use Rattle.lt_seq.specs.SeqPass.{plain, Planned, alone_view};
+ghost use Rattle.lt_seq.specs.SeqPass.{plain, alone_view};
 
 use crate::event::{Deed, Event, Held, Look, Receipt, Reply};
 use crate::plan::YardPlan;
@@ -43,13 +43,12 @@ impl Pass for SeqPass {
     ghost view = { λ s. s.view };
 
     fn number(&self) -> u32 {
-        let _ = &self.plan;
-        0
+        // There is one pass, and numbers begin at 0.
+        self.plan.passes - 1
     }
 
     fn rights(&self) -> u32 {
-        let _ = &self.plan;
-        1
+        self.plan.passes
     }
 }
 
@@ -83,7 +82,7 @@ impl SeqPass {
         }
     }
 
-    /// Asks in a tree.
+    /// Asks in a tree: one event more, or want of memory and no change.
     pub(crate) fn ask(
         &mut self,
         txn: u64,
@@ -97,6 +96,7 @@ impl SeqPass {
         ensures ok { IfOk result (λ r. OneMore (plain self.old.plan) self.old.view self.new.view txn (Ask tree range.now Granted) r) }
         ensures err { OnErr result (self.new ≡ self.old) }
     {
+        // A range's left end is at most its right one.
         let _left = range.left();
         let reply = reply_in(&self.trees, tree, self.alloc, self.plan.buffer, txn, range)?;
         let kept = reply.again()?;
@@ -109,7 +109,7 @@ impl SeqPass {
         Ok(asked(place, txn, tree, range, reply))
     }
 
-    /// Frees in a tree.
+    /// Frees in a tree: one event more, or want of memory and no change.
     pub(crate) fn free(
         &mut self,
         txn: u64,
@@ -124,6 +124,7 @@ impl SeqPass {
         ensures ok { IfOk result (λ r. OneMore (plain self.old.plan) self.old.view self.new.view txn (Free tree range.now first 0) r) }
         ensures err { OnErr result (self.new ≡ self.old) }
     {
+        // A range's left end is at most its right one.
         let _left = range.left();
         self.mine.reserve(1)?;
         let place = self.plan.first + self.mine.len() as u64;
@@ -134,7 +135,7 @@ impl SeqPass {
         Ok(freed(place, txn, tree, range, first, count))
     }
 
-    /// Ends the table.
+    /// Ends the table, and tells its history, its rows in use and what is still held.
     pub(crate) fn close(self, alloc: Global) -> Result<Closed, AllocError>
         ensures one { self.plan.passes ≡ 1 }
         ensures rest { IfOk result (IsRest (plain self.plan) self.view.front) }
@@ -153,6 +154,7 @@ impl SeqPass {
     }
 }
 
+/// As many fresh trees.
 fn fresh_trees(alloc: Global, count: u32) -> Result<Vec<SeqTree>, AllocError>
     ensures { IfOk result (λ trees. trees.items ≡ replicate count fresh) }
 {
@@ -163,6 +165,7 @@ fn fresh_trees(alloc: Global, count: u32) -> Result<Vec<SeqTree>, AllocError>
     Ok(trees)
 }
 
+/// The receipt of an ask.
 fn asked(place: u64, txn: u64, tree: u32, range: &KeyRange, reply: Reply) -> Receipt
     ensures { result ≡ record { place = place; event = record { pass = 0; txn = txn; deed = Ask tree range.now reply } } }
 {
@@ -180,6 +183,7 @@ fn asked(place: u64, txn: u64, tree: u32, range: &KeyRange, reply: Reply) -> Rec
     }
 }
 
+/// The receipt of a free.
 fn freed(place: u64, txn: u64, tree: u32, range: &KeyRange, first: bool, count: u64) -> Receipt
     ensures { result ≡ record { place = place; event = record { pass = 0; txn = txn; deed = Free tree range.now first count } } }
 {
@@ -198,6 +202,7 @@ fn freed(place: u64, txn: u64, tree: u32, range: &KeyRange, first: bool, count: 
     }
 }
 
+/// The answer to an ask in one of the trees.
 fn reply_in(
     trees: &[SeqTree],
     tree: u32,
@@ -212,6 +217,7 @@ fn reply_in(
     trees[tree as usize].reply(alloc, buffer, txn, range)
 }
 
+/// Does there what an ask does, whose answer is this. Where memory is short the trees stay.
 fn ask_in(
     trees: &mut Vec<SeqTree>,
     tree: u32,
@@ -228,6 +234,7 @@ fn ask_in(
     trees[tree as usize].ask(buffer, txn, range, reply)
 }
 
+/// Does there what a free does, and answers its count.
 fn free_in(trees: &mut Vec<SeqTree>, tree: u32, txn: u64, range: &KeyRange, first: bool) -> u64
     requires { tree < length trees.old.items }
     ensures count { result ≡ free_count txn range.now (tree_at trees.old.items tree) }

@@ -25,6 +25,7 @@ impl Model for SeqTree {
     ghost view = { λ t. record { pairs = t.pairs.items; mode = t.mode } };
 }
 
+/// The mode once a buffer has ended.
 fn ended(mode: Mode) -> Mode
     ensures { result ≡ ended mode }
 {
@@ -34,6 +35,7 @@ fn ended(mode: Mode) -> Mode
     }
 }
 
+/// Whether the range goes from one end to the other.
 fn is_whole(range: &KeyRange) -> bool
     ensures { result ≡ is_whole range.now }
 {
@@ -41,6 +43,7 @@ fn is_whole(range: &KeyRange) -> bool
 }
 
 impl SeqTree {
+    /// A tree without pairs.
     pub(crate) fn new(alloc: Global) -> Self
         ensures { result ≡ fresh }
     {
@@ -50,6 +53,7 @@ impl SeqTree {
         }
     }
 
+    /// The rows of the tree, at once.
     pub(crate) fn rows(&self) -> u64
         ensures { result ≡ rows_in self.now.pairs self.now.mode }
     {
@@ -59,6 +63,7 @@ impl SeqTree {
         }
     }
 
+    /// Whether an ask goes into a buffer, or begins one.
     fn is_buffered(&self, buffer: u64, txn: u64) -> bool
         ensures { result ≡ is_buffered buffer txn self.now.pairs self.now.mode }
     {
@@ -68,7 +73,7 @@ impl SeqTree {
         }
     }
 
-    /// The answer to an ask.
+    /// The answer to an ask. The only error is want of memory.
     pub(crate) fn reply(
         &self,
         alloc: Global,
@@ -89,7 +94,7 @@ impl SeqTree {
         }
     }
 
-    /// Does what an ask does, whose answer is this.
+    /// Does what an ask does, whose answer is this. Where memory is short the tree stays.
     pub(crate) fn ask(
         &mut self,
         buffer: u64,

@@ -1,6 +1,4 @@
 //! The plain lock table, with one pass.
-ghost use Rattle.std.specs.Prelude.{◌≡◌, ◌≤◌, ℕ};
-
 use crate::event::{Look, Receipt};
 use crate::fault::Fault;
 use crate::plan::YardPlan;
@@ -28,7 +26,7 @@ impl Model for SeqYard {
 }
 
 impl Yard for SeqYard {
-    ghost use Rattle.std.specs.Prelude.{◌≡◌, ℕ, [], map, IfOk};
+    ghost use Rattle.std.specs.Prelude.{◌≡◌, [], map, IfOk};
     ghost use Rattle.std.specs.List.{AllByRecursion};
     ghost use Rattle.lt_seq.specs.SeqPass.{plain, origin_in};
     ghost use Rattle.lt_seq.specs.Yard.{origin_of};
@@ -73,7 +71,7 @@ impl Yard for SeqYard {
             });
         }
         match pass.ask(txn, tree, range) {
-            Ok(receipt) => { Ok(receipt) }
+            Ok(receipt) => Ok(receipt),
             Err(AllocError) => Err(Fault::OutOfMemory),
         }
     }
@@ -91,7 +89,7 @@ impl Yard for SeqYard {
             return Err(Fault::HistoryFull { place: look.place });
         }
         match pass.free(txn, tree, range, first) {
-            Ok(receipt) => { Ok(receipt) }
+            Ok(receipt) => Ok(receipt),
             Err(AllocError) => Err(Fault::OutOfMemory),
         }
     }

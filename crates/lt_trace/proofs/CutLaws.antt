@@ -1,9 +1,10 @@
 -- A text is cut in one way at the first of a byte.
-use Rattle.std.proofs.Common.{◌≡◌, ◌≢◌, ℕ, ◌+◌, ◌<◌, List, [], ◌∷◌, ◌++◌, Bool, true, false, eqb, length, take, drop, get_or, sym, ap, subst, ◌∙◌, refl, arith, append_assoc}
+use Rattle.std.proofs.Common.{◌≡◌, ◌≢◌, ℕ, ◌+◌, ◌<◌, List, [], ◌∷◌, ◌++◌, ◌||◌, Bool, true, false, eqb, length, take, drop, get_or, sym, ap, ◌∙◌, refl, arith}
+use Rattle.std.proofs.lemmas.Bool.{true≢false, eqb-false}
 use Rattle.std.proofs.lemmas.Bool.Decides.{nat_tests}
-use Rattle.lt_trace.specs.Grammar.{first_line, TextLine}
+use Rattle.lt_trace.specs.Grammar.{first_line}
 use Rattle.std.proofs.lemmas.List.{take_more, drop_more, take-append-drop}
-use Rattle.std.specs.List.{AllByRecursion}
+use Rattle.std.specs.List.{list_any}
 use Rattle.lt_trace.specs.Cut.{Lacks}
 
 eqb-no : (a b : ℕ) → a ≢ b → eqb a b ≡ false
@@ -44,13 +45,11 @@ pub first_line_cut : (text rest : List ℕ) → Lacks 10 text → first_line (te
 first_line_cut [] rest lacks = refl
 first_line_cut (b ∷ bs) rest lacks = rw (eqb-no b 10 lacks.0, first_line_cut bs rest lacks.1)
 
--- two texts that are one end with one byte
-pub last_once : (xs ys : List ℕ) (x y : ℕ) → xs ++ x ∷ [] ≡ ys ++ y ∷ [] → x ≡ y
-last_once [] [] x y e = cc
-last_once [] (b ∷ []) x y e = cc
-last_once [] (b ∷ c ∷ ys) x y e = cc
-last_once (a ∷ []) [] x y e = cc
-last_once (a ∷ c ∷ xs) [] x y e = cc
-last_once (a ∷ xs) (b ∷ ys) x y e =
-    let rest : xs ++ x ∷ [] ≡ ys ++ y ∷ [] = cc in
-    last_once xs ys x y rest
+-- whether a text has a byte is computed
+pub lacks_by_test : (b : ℕ) (xs : List ℕ) → list_any (λ x. eqb x b) xs ≡ false → Lacks b xs
+lacks_by_test b [] none = tt
+lacks_by_test b (x ∷ xs) none = by_case (eqb x b) (λ other. eqb-false x b other) none (lacks_by_test b xs)
+  where
+    by_case : (same : Bool) → (same ≡ false → x ≢ b) → (same || list_any (λ y. eqb y b) xs) ≡ false → (list_any (λ y. eqb y b) xs ≡ false → Lacks b xs) → (x ≢ b) × Lacks b xs
+    by_case true differs none rest = absurd (true≢false none)
+    by_case false differs none rest = (differs refl, rest none)

@@ -1,12 +1,18 @@
 -- A text has one form of a line at the most.
-use Rattle.std.proofs.Common.{◌≡◌, ◌≢◌, ℕ, ◌+◌, ◌^◌, ◌<◌, ◌≤◌, List, [], ◌∷◌, ◌++◌, decimal, sym, ap, subst, ◌∙◌, refl, lit<, arith}
+use Rattle.std.proofs.Common.{◌≡◌, ℕ, ◌^◌, ◌<◌, List, [], ◌∷◌, ◌++◌, get_or, codes, decimal, sym, ap, subst, ◌∙◌, refl, lit<, arith, append_assoc}
+use Rattle.std.proofs.lemmas.Fmt.{decimal_injective}
+use Rattle.lt_ranges.specs.declared.key.Key.{Key}
+use Rattle.lt_ranges.specs.Interval.{Interval}
 use Rattle.lt_ranges.specs.KeyText.{key_text, range_text}
+use Rattle.lt_ranges.proofs.KeyTextLaws.{text_once}
+use Rattle.lt_trace.specs.declared.line.Line.{Line}
 use Rattle.lt_trace.specs.declared.line.LineDeed.{LineDeed}
 use Rattle.lt_trace.specs.declared.line.LineDeed.TheVariants.{Try, Lock, End, Abort, Escalate, Big}
 use Rattle.lt_trace.specs.Cut.{Lacks}
-use Rattle.lt_trace.specs.Grammar.{IsDeedForm, deed_text}
-use Rattle.lt_trace.proofs.CutLaws.{lacks_not, cut_once}
+use Rattle.lt_trace.specs.Grammar.{IsRangeForm, IsDeedForm, deed_text, IsForm, line_text}
+use Rattle.lt_trace.proofs.CutLaws.{lacks_append, lacks_not, lacks_by_test, cut_once}
 use Rattle.lt_trace.proofs.TextLaws.{decimal_lacks}
+use Rattle.lt_trace.proofs.KeyWordLaws.{key_cut, key_lacks}
 
 -- what stands before the first space is a number, if a number stands there
 pub number_once : (n : ℕ) (digits rest tail : List ℕ) → n < 10 ^ 9 → Lacks 32 digits → digits ++ 32 ∷ rest ≡ decimal n ++ 32 ∷ tail → (digits ≡ decimal n) × (rest ≡ tail)
@@ -25,3 +31,75 @@ deed_ahead version End form = (_, refl)
 deed_ahead version Abort form = absurd form
 deed_ahead version (Escalate tree) form = absurd form
 deed_ahead version Big form = absurd form
+
+tail : {a b : ℕ} {xs ys : List ℕ} → a ∷ xs ≡ b ∷ ys → xs ≡ ys
+tail e = cc
+
+second : {xs ys : List ℕ} → xs ≡ ys → get_or xs 1 0 ≡ get_or ys 1 0
+second e = ap (λ text. get_or text 1 0) e
+
+deed_lacks : (version : ℕ) (deed : LineDeed) → IsDeedForm version deed → Lacks 10 (deed_text deed)
+deed_lacks version (Try tree range) form =
+    lacks_append 10 (codes " try " ++ decimal tree) (range_text range)
+    (lacks_append 10 (codes " try ") (decimal tree) (lacks_by_test 10 (codes " try ") refl) (decimal_lacks 10 tree (let h = form.0 in omega arith) (lit< tt)))
+    (lacks_append 10 (codes " " ++ key_text range.left ++ codes " ") (key_text range.right)
+    (lacks_append 10 (codes " " ++ key_text range.left) (codes " ") (lacks_append 10 (codes " ") (key_text range.left) (lacks_by_test 10 (codes " ") refl) (key_lacks range.left)) (lacks_by_test 10 (codes " ") refl))
+    (key_lacks range.right))
+deed_lacks version (Lock tree range) form = absurd form
+deed_lacks version End form = lacks_by_test 10 (codes " end") refl
+deed_lacks version Abort form = absurd form
+deed_lacks version (Escalate tree) form = absurd form
+deed_lacks version Big form = absurd form
+
+abbrev between : Key → Key → Interval
+between left right = record { left = left; right = right }
+
+-- two ranges of one text are the same
+range_once : (version : ℕ) (a b : Interval) → IsRangeForm version a → IsRangeForm version b → range_text a ≡ range_text b → a ≡ b
+range_once version a b one other e =
+    let both : key_text a.left ++ 32 ∷ key_text a.right ≡ key_text b.left ++ 32 ∷ key_text b.right =
+    sym (append_assoc (key_text a.left) (32 ∷ []) (key_text a.right)) ∙ tail e ∙ append_assoc (key_text b.left) (32 ∷ []) (key_text b.right) in
+    let cut = key_cut a.left b.left (key_text a.right) (key_text b.right) both in
+    let left = text_once a.left b.left one.0.1 other.0.1 cut.0 in
+    let right = text_once a.right b.right one.1.1 other.1.1 cut.1 in
+    ap (λ k. between k a.right) left ∙ ap (λ k. between b.left k) right
+
+-- two deeds of one text are the same
+deed_once : (version : ℕ) (d e : LineDeed) → IsDeedForm version d → IsDeedForm version e → deed_text d ≡ deed_text e → d ≡ e
+deed_once version (Try t a) (Try u b) one other is =
+    let cut = number_once u (decimal t) _ _ other.0 (decimal_lacks 32 t (let h = one.0 in omega arith) (lit< tt)) (tail (tail (tail (tail (tail is))))) in
+    let tree = decimal_injective t u (let h = one.0 in omega arith) (let h = other.0 in omega arith) cut.0 in
+    let range = range_once version a b one.1 other.1 (ap (λ text. 32 ∷ text) cut.1) in
+    cc (tree, range)
+deed_once version (Try t a) End one other is = absurd (omega (arith, second is))
+deed_once version End (Try u b) one other is = absurd (omega (arith, second is))
+deed_once version End End one other is = refl
+deed_once version (Lock t a) e one other is = absurd one
+deed_once version Abort e one other is = absurd one
+deed_once version (Escalate t) e one other is = absurd one
+deed_once version Big e one other is = absurd one
+deed_once version (Try t a) (Lock u b) one other is = absurd other
+deed_once version (Try t a) Abort one other is = absurd other
+deed_once version (Try t a) (Escalate u) one other is = absurd other
+deed_once version (Try t a) Big one other is = absurd other
+deed_once version End (Lock u b) one other is = absurd other
+deed_once version End Abort one other is = absurd other
+deed_once version End (Escalate u) one other is = absurd other
+deed_once version End Big one other is = absurd other
+
+-- two lines of one text are of one transaction, and ask for the same
+pub line_once : (version : ℕ) (k l : Line) → IsForm version k → IsForm version l → line_text k ≡ line_text l → (k.txn ≡ l.txn) × (k.deed ≡ l.deed)
+line_once version k l one other is =
+    let first = deed_ahead version k.deed one.deed in
+    let second = deed_ahead version l.deed other.deed in
+    let spaced : decimal k.txn ++ 32 ∷ first.0 ≡ decimal l.txn ++ 32 ∷ second.0 = sym (ap (λ text. decimal k.txn ++ text) first.1) ∙ is ∙ ap (λ text. decimal l.txn ++ text) second.1 in
+    let small : k.txn < 2 ^ 64 = let h = one.most in omega arith in
+    let cut = number_once l.txn (decimal k.txn) first.0 second.0 other.most (decimal_lacks 32 k.txn small (lit< tt)) spaced in (
+      decimal_injective k.txn l.txn small (let h = other.most in omega arith) cut.0,
+      deed_once version k.deed l.deed one.deed other.deed (first.1 ∙ ap (λ text. 32 ∷ text) cut.1 ∙ sym second.1),
+    )
+
+-- no newline stands in a line
+pub line_lacks : (version : ℕ) (line : Line) → IsForm version line → Lacks 10 (line_text line)
+line_lacks version line form =
+    lacks_append 10 (decimal line.txn) (deed_text line.deed) (decimal_lacks 10 line.txn (let h = form.most in omega arith) (lit< tt)) (deed_lacks version line.deed form.deed)

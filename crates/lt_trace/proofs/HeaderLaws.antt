@@ -1,8 +1,8 @@
 -- Faults of the header.
-use Rattle.std.proofs.Common.{◌≡◌, ℕ, ◌+◌, List, [], ◌∷◌, ◌++◌, Option, Some, None, length, sym, ap, subst, ◌∙◌, append_assoc}
+use Rattle.std.proofs.Common.{◌≡◌, ℕ, ◌+◌, List, [], ◌++◌, Some, length, sym, ap, subst, ◌∙◌}
 use Rattle.std.proofs.lemmas.List.{append-nil}
 use Rattle.lt_trace.specs.declared.fault.TraceFault.{TraceFault}
-use Rattle.lt_trace.specs.Grammar.{HeaderForm, header_forms, header_text, AreInForm, next_form, Front, IsFront, front_text, HasFault, IsHeaderFault, IsFirstFault}
+use Rattle.lt_trace.specs.Grammar.{HeaderForm, header_forms, header_text, AreInForm, next_form, Front, HasFault, IsHeaderFault, IsFirstFault}
 
 -- behind header lines without a fault, the next one's fault is the first
 pub header_fault : (ns : List ℕ) (form : HeaderForm) (bytes rest : List ℕ) (f : TraceFault) → next_form header_forms ns ≡ Some form → AreInForm header_forms ns → bytes ≡ header_text header_forms ns ++ rest → IsHeaderFault form (1 + length ns) rest f → IsFirstFault bytes f

@@ -1,11 +1,12 @@
 -- Where the text of a key ends, and which keys have a star.
-use Rattle.std.proofs.Common.{◌≡◌, ◌≢◌, ℕ, ◌+◌, ◌^◌, ◌<◌, ◌≤◌, ◌⊎◌, inl, inr, List, [], ◌∷◌, ◌++◌, Bool, true, false, Some, cond, length, sym, ap, subst, ◌∙◌, refl, arith, append_assoc, length-append, MatchBool}
+use Rattle.std.proofs.Common.{◌≡◌, ◌≢◌, ℕ, ◌+◌, ◌<◌, ◌≤◌, ◌⊎◌, inl, inr, List, [], ◌∷◌, ◌++◌, length, get_or, lit<, sym, ap, subst, ◌∙◌, refl, arith, append_assoc, length-append}
 use Rattle.lt_ranges.specs.declared.key.Key.{Key}
 use Rattle.lt_ranges.specs.declared.key.Key.TheVariants.{Below, Bytes, After, Above}
 use Rattle.lt_ranges.specs.KeyText.{byte_text, spelled, key_text}
+use Rattle.lt_ranges.proofs.QuotingLaws.{same_front}
 use Rattle.lt_trace.specs.Cut.{Lacks}
 use Rattle.lt_trace.specs.Grammar.{HasKind}
-use Rattle.lt_trace.proofs.CutLaws.{lacks_append, lacks_not, cut_once, last_once}
+use Rattle.lt_trace.proofs.CutLaws.{lacks_append, lacks_not, cut_once}
 use Rattle.lt_trace.proofs.TextLaws.{byte_lacks}
 
 -- no quotation mark stands inside, nor a newline
@@ -32,6 +33,12 @@ after_ahead bytes tail = append_assoc (key_text (Bytes bytes)) (42 ∷ []) tail 
 
 same_tail : (a b : ℕ) (xs ys : List ℕ) → a ∷ xs ≡ b ∷ ys → xs ≡ ys
 same_tail a b xs ys e = cc
+
+first : {xs ys : List ℕ} → xs ≡ ys → get_or xs 0 0 ≡ get_or ys 0 0
+first e = ap (λ text. get_or text 0 0) e
+
+differs : (b : ℕ) → 10 < b → b ≢ 10
+differs b more = omega arith
 
 same_head : (a b : ℕ) (xs ys : List ℕ) → a ∷ xs ≡ b ∷ ys → a ≡ b
 same_head a b xs ys e = cc
@@ -102,10 +109,10 @@ star_of_after bytes = refl
 
 -- and no other does
 pub star_needs : (version : ℕ) (key : Key) (front : List ℕ) → HasKind version key → key_text key ≡ front ++ 42 ∷ [] → 2 ≤ version
-star_needs version Below front kind is = let e : ◌≡◌ {A = ℕ} 45 42 = last_once [] front 45 42 is in absurd (omega arith)
-star_needs version (Bytes bytes) front kind is = let e : ◌≡◌ {A = ℕ} 34 42 = last_once (34 ∷ spelled bytes) front 34 42 is in absurd (omega arith)
+star_needs version Below front kind is = let e : ◌≡◌ {A = ℕ} 45 42 = (same_front [] front 45 42 is).1 in absurd (omega arith)
+star_needs version (Bytes bytes) front kind is = let e : ◌≡◌ {A = ℕ} 34 42 = (same_front (34 ∷ spelled bytes) front 34 42 is).1 in absurd (omega arith)
 star_needs version (After bytes) front kind is = kind
-star_needs version Above front kind is = let e : ◌≡◌ {A = ℕ} 43 42 = last_once [] front 43 42 is in absurd (omega arith)
+star_needs version Above front kind is = let e : ◌≡◌ {A = ℕ} 43 42 = (same_front [] front 43 42 is).1 in absurd (omega arith)
 
 pub kind_without_star : (version : ℕ) (key : Key) → ((front : List ℕ) → key_text key ≡ front ++ 42 ∷ [] → ⊥) → HasKind version key
 kind_without_star version Below other = tt
@@ -118,3 +125,40 @@ kind_of_later version Below later = tt
 kind_of_later version (Bytes bytes) later = tt
 kind_of_later version (After bytes) later = later
 kind_of_later version Above later = tt
+
+-- two keys with a space and more behind them
+pub key_cut : (x y : Key) (r s : List ℕ) → key_text x ++ 32 ∷ r ≡ key_text y ++ 32 ∷ s → (key_text x ≡ key_text y) × (r ≡ s)
+key_cut Below Below r s e = (refl, same_tail 32 32 r s (same_tail 45 45 (32 ∷ r) (32 ∷ s) e))
+key_cut Below (Bytes ys) r s e = absurd (omega (arith, first e))
+key_cut Below (After ys) r s e = absurd (omega (arith, first e))
+key_cut Below Above r s e = absurd (omega (arith, first e))
+key_cut (Bytes xs) Below r s e = absurd (omega (arith, first e))
+key_cut (Bytes xs) (Bytes ys) r s e =
+    let once = bytes_once ys s (spelled xs) (32 ∷ r) (sym (bytes_ahead xs (32 ∷ r)) ∙ e) (spelled_lacks 34 xs (inr refl)) in
+    (ap (λ text. 34 ∷ text ++ 34 ∷ []) once.0, same_tail 32 32 r s once.1)
+key_cut (Bytes xs) (After ys) r s e =
+    let once = after_once ys s (spelled xs) (32 ∷ r) (sym (bytes_ahead xs (32 ∷ r)) ∙ e) (spelled_lacks 34 xs (inr refl)) in
+    absurd (omega (arith, first once.1))
+key_cut (Bytes xs) Above r s e = absurd (omega (arith, first e))
+key_cut (After xs) Below r s e = absurd (omega (arith, first e))
+key_cut (After xs) (Bytes ys) r s e =
+    let once = bytes_once ys s (spelled xs) (42 ∷ 32 ∷ r) (sym (after_ahead xs (32 ∷ r)) ∙ e) (spelled_lacks 34 xs (inr refl)) in
+    absurd (omega (arith, first once.1))
+key_cut (After xs) (After ys) r s e =
+    let once = after_once ys s (spelled xs) (42 ∷ 32 ∷ r) (sym (after_ahead xs (32 ∷ r)) ∙ e) (spelled_lacks 34 xs (inr refl)) in
+    (ap (λ text. (34 ∷ text ++ 34 ∷ []) ++ 42 ∷ []) once.0, same_tail 32 32 r s (same_tail 42 42 (32 ∷ r) (32 ∷ s) once.1))
+key_cut (After xs) Above r s e = absurd (omega (arith, first e))
+key_cut Above Below r s e = absurd (omega (arith, first e))
+key_cut Above (Bytes ys) r s e = absurd (omega (arith, first e))
+key_cut Above (After ys) r s e = absurd (omega (arith, first e))
+key_cut Above Above r s e = (refl, same_tail 32 32 r s (same_tail 43 43 (32 ∷ r) (32 ∷ s) e))
+
+-- no newline stands in a key's text
+key_lacks_bytes : (bytes : List ℕ) → Lacks 10 (key_text (Bytes bytes))
+key_lacks_bytes bytes = (differs 34 (omega arith), lacks_append 10 (spelled bytes) (34 ∷ []) (spelled_lacks 10 bytes (inl (lit< tt))) (differs 34 (omega arith), tt))
+
+pub key_lacks : (key : Key) → Lacks 10 (key_text key)
+key_lacks Below = (differs 45 (omega arith), tt)
+key_lacks (Bytes bytes) = key_lacks_bytes bytes
+key_lacks (After bytes) = lacks_append 10 (key_text (Bytes bytes)) (42 ∷ []) (key_lacks_bytes bytes) (differs 42 (omega arith), tt)
+key_lacks Above = (differs 43 (omega arith), tt)

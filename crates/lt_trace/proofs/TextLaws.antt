@@ -1,6 +1,5 @@
 -- Which bytes the parts of a line lack.
-use Rattle.std.proofs.Common.{◌≡◌, ◌≢◌, ℕ, ◌+◌, ◌-◌, ◌*◌, ◌/◌, ◌%◌, ◌^◌, ◌<◌, ◌≤◌, ◌⊎◌, lit<, lit≤, List, [], ◌∷◌, ◌++◌, Bool, true, false, cond, sym, ap, subst, refl, arith}
-use Rattle.std.specs.List.{AllByRecursion, flat_map}
+use Rattle.std.proofs.Common.{◌≡◌, ◌≢◌, ℕ, ◌+◌, ◌/◌, ◌%◌, ◌^◌, ◌<◌, ◌≤◌, ◌⊎◌, lit<, lit≤, List, [], ◌∷◌, Bool, true, false, cond, refl, arith}
 use Rattle.std.specs.Fmt.{decimal, digit_glyph}
 use Rattle.std.proofs.lemmas.Fmt.{decimal_by_steps}
 use Rattle.lt_ranges.specs.KeyText.{is_plain, byte_text}

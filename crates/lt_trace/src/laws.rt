@@ -1,8 +1,10 @@
 //! Laws of the grammar.
-ghost use Rattle.std.specs.Prelude.{◌≡◌, List, [], ◌∷◌, ◌++◌, length};
+ghost use Rattle.std.specs.Prelude.{◌≡◌, ℕ, List, [], ◌∷◌, ◌++◌, length};
+ghost use Rattle.lt_trace.specs.declared.fault.TraceFault.{TraceFault};
 ghost use Rattle.lt_trace.specs.declared.line.Line.{Line};
 ghost use Rattle.lt_trace.specs.FaultRows.{FaultRows};
-ghost use Rattle.lt_trace.specs.Grammar.{Front, IsFront, IsFaultless, header_forms};
+ghost use Rattle.lt_trace.specs.Trace.{TraceView};
+ghost use Rattle.lt_trace.specs.Grammar.{Front, IsFront, IsFaultless, IsFirstFault, Spells, header_forms};
 
 /// Worked refusals come out so.
 pub fn fault_rows()
@@ -12,4 +14,19 @@ pub fn fault_rows()
 /// A front grows by one line.
 pub fn front_grows()
     ensures { (front : Front) (line : Line) → length front.header ≡ length header_forms → IsFront front → IsFaultless front.header front.lines line → IsFront (record front { lines = front.lines ++ line ∷ [] }) }
+{}
+
+/// Bytes that spell a trace have no fault.
+pub fn spelled_not_refused()
+    ensures { (bytes : List ℕ) (trace : TraceView) (fault : TraceFault) → Spells bytes trace → IsFirstFault bytes fault → ⊥ }
+{}
+
+/// Bytes spell one trace at the most.
+pub fn one_trace()
+    ensures { (bytes : List ℕ) (one other : TraceView) → Spells bytes one → Spells bytes other → one ≡ other }
+{}
+
+/// Bytes have one first fault at the most.
+pub fn one_fault()
+    ensures { (bytes : List ℕ) (one other : TraceFault) → IsFirstFault bytes one → IsFirstFault bytes other → one ≡ other }
 {}

@@ -14,9 +14,14 @@ pub mod numbers;
 mod reading;
 mod text_line;
 pub mod trace;
+mod writing;
 
 pub use fault::TraceFault;
 pub use line::{Line, LineDeed};
 pub use numbers::number;
 pub use reading::read;
 pub use trace::Trace;
+pub use writing::write;
+
+#[cfg(test)]
+mod tests;

@@ -1,6 +1,9 @@
 //! Reading traces.
-ghost use Rattle.std.specs.Prelude.{◌≡◌, ◌<◌, ◌≤◌, length, IfOk, IfErr, OnOk};
-ghost use Rattle.lt_trace.specs.Grammar.{header_forms, AreInForm, IsFront, IsBodyFault, Spells, OrNoMemory, Refuses};
+ghost use Rattle.std.specs.Prelude.{◌≡◌, ◌<◌, ◌≤◌, length, ◌⊎◌, IfOk, IfErr, OnOk, MatchResult};
+ghost use Rattle.lt_trace.specs.declared.fault.TraceFault.{TraceFault};
+ghost use Rattle.lt_trace.specs.declared.fault.TraceFault.TheVariants as TraceFault;
+ghost use Rattle.lt_trace.specs.Trace.{TraceView};
+ghost use Rattle.lt_trace.specs.Grammar.{header_forms, AreInForm, IsFront, IsBodyFault, IsFirstFault, Spells, OrNoMemory, Refuses};
 ghost use Rattle.lt_trace.specs.Reading.{numbers, front_of, body_text, IsOneMore, IsFirstBodyFault};
 
 use crate::body::Body;
@@ -40,14 +43,26 @@ fn read_body(alloc: Global, header: &Header, bytes: &[u8]) -> Result<Vec<Line>, 
     Ok(body.into_lines())
 }
 
-/// Reads a trace. A refusal names the first faulty line and the first fault that it has.
-///
-/// The bytes are gone through once, and memory is taken for the lines and for each transaction.
-pub fn read(alloc: Global, bytes: &[u8]) -> Result<Trace, TraceFault>
+/// The trace of a header and the lines behind it.
+fn read_trace(alloc: Global, bytes: &[u8]) -> Result<Trace, TraceFault>
     ensures read { IfOk result (Spells bytes.now) }
     ensures refused { IfErr result (Refuses bytes.now) }
 {
     let (header, rest) = read_header(bytes)?;
     let lines = read_body(alloc, &header, rest)?;
     Ok(Trace::new(&header, lines))
+}
+
+/// Reads a trace. A refusal names the first faulty line and the first fault that it has.
+///
+/// The bytes are gone through once, and memory is taken for the lines and for each transaction.
+pub fn read(alloc: Global, bytes: &[u8]) -> Result<Trace, TraceFault>
+    // What is read is spelled so, and what is refused is refused for its first fault.
+    ensures read { IfOk result (Spells bytes.now) }
+    ensures refused { IfErr result (Refuses bytes.now) }
+    // What spells a trace is read as that trace, and what has a first fault is refused for it, unless memory runs out.
+    ensures of_a_trace { (trace : TraceView) → Spells bytes.now trace → MatchResult result (λ read. read ≡ trace) (λ fault. fault ≡ TraceFault.OutOfMemory) }
+    ensures of_a_fault { (first : TraceFault) → IsFirstFault bytes.now first → MatchResult result (λ read. ⊥) (λ fault. (fault ≡ first) ⊎ (fault ≡ TraceFault.OutOfMemory)) }
+{
+    read_trace(alloc, bytes)
 }

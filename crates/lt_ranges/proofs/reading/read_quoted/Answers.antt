@@ -1,9 +1,8 @@
-use Rattle.std.proofs.Common.{rules, ◌≡◌, ℕ, List, ◌-◌, ◌≤◌, length, take, drop, [], ◌∷◌, ◌++◌, get_or, arith}
+use Rattle.std.proofs.Common.{◌≡◌, ℕ, List, ◌-◌, length, take, drop, [], ◌∷◌, ◌++◌, arith}
 use Rattle.lt_ranges.specs.KeyText.{spelled}
 use Rattle.lt_ranges.proofs.QuotingLaws.{quoted_begins, quoted_length, quoted_ends, quoted_by_ends}
 use Rattle.lt_ranges.proofs.TextFaultLaws.{fault_around}
 use Rattle.lt_ranges.proofs.reading.read_quoted.Goals as goal
-use Rattle.lt_ranges.proofs.reading.read_quoted.Goals.{in_default-via-then-text-lt2, in_default-via-else-text-lt2+in-34+in_default-1, in_default-via-else-text-lt2+in_default-1}
 
 pub returns-in-34-clause-fault : goal.returns-in-34-clause-fault
 returns-in-34-clause-fault c =
@@ -17,8 +16,4 @@ returns-in_default-clause-fault c bytes are same =
     let begins = quoted_begins c.args.text.now (spelled bytes) same in
     let long = quoted_length c.args.text.now (spelled bytes) same in
     let ends = quoted_ends c.args.text.now (spelled bytes) same in
-    elim c.in_default.branch [
-      | in_default-via-then-text-lt2 w ↦ grind arith
-      | in_default-via-else-text-lt2+in-34+in_default-1 w ↦ grind arith
-      | in_default-via-else-text-lt2+in_default-1 w ↦ grind arith
-    ]
+    grind arith

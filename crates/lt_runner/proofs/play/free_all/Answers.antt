@@ -1,4 +1,4 @@
-use Rattle.std.proofs.Common.{rules, arith}
+use Rattle.std.proofs.Common.{rules}
 use Rattle.lt_runner.proofs.FreeLaws.{freed_onward, places_onward}
 use Rattle.lt_runner.proofs.play.free_all.Goals as goal
 

@@ -1,4 +1,4 @@
-use Rattle.std.proofs.Common.{◌≡◌, drop, length, ◌+◌, ◌-◌, true}
+use Rattle.std.proofs.Common.{◌≡◌, drop, length, ◌-◌, true}
 use Rattle.lt_seq.specs.Yard.{origin_of}
 use Rattle.lt_runner.specs.Turn.{releases_by}
 use Rattle.lt_runner.specs.AtOnce.{IsAlone, HasPlaces, freed}

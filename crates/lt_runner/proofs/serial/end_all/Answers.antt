@@ -1,8 +1,8 @@
-use Rattle.std.proofs.Common.{◌≡◌, ◌∙◌, rules, sym, arith, get_or, ◌<◌, length}
+use Rattle.std.proofs.Common.{◌∙◌, rules, sym, arith, ◌<◌, length}
 use Rattle.std.specs.List.{All}
 use Rattle.std.proofs.lemmas.List.Elements.{AllWithin-more_set}
 use Rattle.lt_trace.specs.declared.line.LineDeed.TheVariants.{End}
-use Rattle.lt_runner.specs.AtOnce.{HasEnded, numbers_of, step_at, played_by}
+use Rattle.lt_runner.specs.AtOnce.{HasEnded, numbers_of}
 use Rattle.lt_runner.proofs.ScheduleLaws.{IsPlayed, played_turns, played_numbers, played_owed, goes_onward, now_ended, ends_over}
 use Rattle.lt_runner.proofs.serial.end_all.Goals as goal
 

@@ -1,4 +1,4 @@
-use Rattle.std.proofs.Common.{refl, sym, ap, ◌∷◌, ◌∙◌, arith}
+use Rattle.std.proofs.Common.{refl, ap, ◌∷◌, ◌∙◌}
 use Rattle.lt_trace.specs.declared.line.LineDeed.TheVariants.{Try}
 use Rattle.lt_trace.proofs.form.read_deed.Goals as goal
 

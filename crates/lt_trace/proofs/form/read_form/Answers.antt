@@ -1,7 +1,6 @@
-use Rattle.std.proofs.Common.{◌≡◌, ◌≢◌, ℕ, ◌+◌, ◌^◌, ◌<◌, ◌≤◌, List, [], ◌∷◌, ◌++◌, decimal, refl, sym, ap, subst, ◌∙◌, arith}
+use Rattle.std.proofs.Common.{◌≡◌, ℕ, List, ◌∷◌, ◌++◌, decimal, refl, sym, ap, ◌∙◌, arith}
 use Rattle.lt_trace.specs.declared.line.Line.{Line}
-use Rattle.lt_trace.specs.Cut.{Lacks}
-use Rattle.lt_trace.specs.Grammar.{IsForm, line_text, deed_text}
+use Rattle.lt_trace.specs.Grammar.{IsForm, line_text}
 use Rattle.lt_trace.proofs.FormLaws.{number_once, number_ends, deed_ahead}
 use Rattle.lt_trace.proofs.form.read_form.Goals as goal
 

@@ -1,4 +1,4 @@
-use Rattle.std.proofs.Common.{◌≡◌, ℕ, List, ◌∷◌, ◌++◌, Some, ap, sym, ◌∙◌}
+use Rattle.std.proofs.Common.{◌≡◌, ◌∷◌, ◌++◌, Some, ap}
 use Rattle.lt_ranges.specs.KeyText.{key_text}
 use Rattle.lt_trace.proofs.KeyWordLaws.{len_closed, len_starred}
 use Rattle.lt_trace.proofs.key_words.key_len.Goals as goal

@@ -1,4 +1,4 @@
-use Rattle.std.proofs.Common.{false, unwrap_or, ap, sym, ◌∙◌}
+use Rattle.std.proofs.Common.{false, unwrap_or, ap, ◌∙◌}
 use Rattle.lt_trace.proofs.SeenLaws.{seen_ended}
 use Rattle.lt_trace.proofs.body.Body.has_ended.Goals as goal
 

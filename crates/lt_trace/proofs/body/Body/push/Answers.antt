@@ -1,7 +1,5 @@
-use Rattle.std.proofs.Common.{◌≡◌, ◌||◌, cond, is_some, ◌+◌, ap, sym, subst, ◌∙◌}
-use Rattle.std.specs.Ordering.{nat_cmp}
-use Rattle.std.specs.BTreeMap.{get, btree_map_len}
-use Rattle.lt_trace.specs.Grammar.{has_ended, is_last}
+use Rattle.std.proofs.Common.{cond, is_some, ◌+◌, ap, sym, subst, ◌∙◌}
+use Rattle.std.specs.BTreeMap.{btree_map_len}
 use Rattle.lt_trace.specs.Seen.{IsSeen}
 use Rattle.lt_trace.proofs.SeenLaws.{seen_more}
 use Rattle.lt_trace.proofs.body.Body.push.Goals as goal

@@ -1,0 +1,97 @@
+-- What the statuses say, from what was read and what was answered.
+use Rattle.std.proofs.Common.{◌≡◌, ◌≢◌, ◌⊎◌, ◌∷◌, ◌<◌, ◌≤◌, ℕ, List, [], length, take, inl, inr, arith, subst, sym, ◌∙◌, ap, refl, Contains, Some, None}
+use Rattle.std.proofs.lemmas.List.{take_all, length-take}
+use Rattle.std.specs.declared.option.Option.{Option}
+use Rattle.std.specs.Io.KnownBytes.{Appends, Consumes, IsAtEnd}
+use Rattle.lt_edge.specs.Bytes.{AppendsPart, ReadsUpTo}
+use Rattle.lt_trace.specs.Trace.{TraceView}
+use Rattle.lt_trace.specs.Grammar.{Spells, IsFirstFault, Refuses as IsRefused}
+use Rattle.lt_trace.specs.declared.fault.TraceFault.{TraceFault}
+use Rattle.lt_trace.specs.declared.fault.TraceFault.TheVariants as fault
+use Rattle.lt_trace.proofs.FaultLaws.{spelled_not_refused}
+use Rattle.lt_program.specs.Words.{IsCommand}
+use Rattle.lt_program.specs.Answers.{IsAnswer, status_of, bytes_of}
+use Rattle.lt_program.specs.Statuses.{ReadsAll, ReadsEnough, Works, Refuses, Breaks, IsComplete, most_bytes}
+use Rattle.lt_program.specs.declared.answer.Answer.{Answer}
+use Rattle.lt_program.specs.declared.answer.Answer.TheVariants.{Text, Refusal}
+use Rattle.lt_program.specs.declared.words.Command.{Command}
+use Rattle.lt_program.proofs.LengthLaws.{length-front_text}
+
+-- a fault that is no want of memory is the first one
+pub refused_first : (bytes : List ℕ) (f : TraceFault) → f ≢ fault.OutOfMemory → IsRefused bytes f → IsFirstFault bytes f
+refused_first bytes (fault.BadHeader line) other r = r
+refused_first bytes (fault.BadLine line) other r = r
+refused_first bytes (fault.LineTooLong line) other r = r
+refused_first bytes (fault.TooManyLines line) other r = r
+refused_first bytes (fault.TreeOutOfRange line) other r = r
+refused_first bytes (fault.KeyTooLong line) other r = r
+refused_first bytes (fault.Backwards line) other r = r
+refused_first bytes (fault.AfterEnd line) other r = r
+refused_first bytes (fault.TooManyTxns line) other r = r
+refused_first bytes (fault.NoFinalNewline line) other r = r
+refused_first bytes fault.OutOfMemory other r = absurd (other refl)
+
+-- what a short list is taken of is that list
+take_short : (n : ℕ) (all bytes : List ℕ) → bytes ≡ take n all → length bytes < n → bytes ≡ all
+take_short n all bytes e short =
+    e ∙ take_all n all (omega (arith, ap length e, length-take n all))
+
+-- no other status comes of writing
+pub only_status : (status : ℕ) (a : Answer) → (status ≡ status_of a) ⊎ (status ≡ 5) → Contains (0 ∷ 2 ∷ 3 ∷ 4 ∷ 5 ∷ 6 ∷ []) status
+only_status status (Text text) (inl s) = (0, omega arith, sym s)
+only_status status (Refusal line) (inl s) = (2, omega arith, sym s)
+only_status status a (inr s) = (4, omega arith, sym s)
+
+module _ (words : List (List ℕ)) (left rest : Option (List ℕ)) (status : ℕ) (command : Command) (bytes : List ℕ)
+    (form : IsCommand words command) (read : ReadsEnough left rest bytes) where
+  pub completes : (a : Answer) → IsAnswer command bytes a → (status ≡ status_of a) ⊎ (status ≡ 5) → status ≢ 5 → IsComplete words left status
+  completes (Text text) is (inl s) five = record {
+    trace = λ other all t said told spelled. inl s;
+    no_trace = λ other all said told none.
+        absurd (none is.0 (let P : List ℕ → Type 0 = λ b. Spells b is.0 in
+        subst P (take_short most_bytes all bytes (read.bytes_read all told) (length-front_text bytes is.0 is.1)) is.1));
+  }
+  completes (Refusal line) is (inl s) five = record {
+    trace = λ other all t said told spelled.
+        let short = length-front_text all t spelled in
+        let same : bytes ≡ all = read.bytes_read all told ∙ take_all most_bytes all (omega arith) in
+        absurd (spelled_not_refused bytes t is.0 (let P : List ℕ → Type 0 = λ b. Spells b t in subst P (sym same) spelled) is.1);
+    no_trace = λ other all said told none. inl s;
+  }
+  completes a is (inr s) five = absurd (five s)
+
+module _ (words : List (List ℕ)) (left rest before after : Option (List ℕ)) (status : ℕ) (command : Command) (bytes : List ℕ)
+    (form : IsCommand words command) (read : ReadsEnough left rest bytes) where
+  pub works : (a : Answer) → IsAnswer command bytes a → (length bytes < most_bytes → IsAtEnd rest) → (status ≡ status_of a) ⊎ (status ≡ 5)
+      → (status ≢ 5 → Appends before after (bytes_of a)) → status ≡ 0 → Works words left rest before after
+  works (Text text) is end s all done = record {
+    command = command;
+    bytes = bytes;
+    trace = is.0;
+    text = text.items;
+    form = form;
+    read = record { read = read.read; end = end (length-front_text bytes is.0 is.1) };
+    spelled = is.1;
+    work = is.2;
+    written = all (λ five. omega arith);
+  }
+  works (Refusal line) is end (inl s) all done = absurd (omega arith)
+  works (Refusal line) is end (inr s) all done = absurd (omega arith)
+
+  pub refuses : (a : Answer) → IsAnswer command bytes a → (status ≡ status_of a) ⊎ (status ≡ 5)
+      → (status ≢ 5 → Appends before after (bytes_of a)) → status ≡ 3 → Refuses words left rest before after
+  refuses (Text text) is (inl s) all done = absurd (omega arith)
+  refuses (Text text) is (inr s) all done = absurd (omega arith)
+  refuses (Refusal line) is s all done = record {
+    command = command;
+    bytes = bytes;
+    fault = is.0;
+    form = form;
+    read = read;
+    no_trace = λ trace spelled. spelled_not_refused bytes trace is.0 spelled is.1;
+    first = is.1;
+    written = (let P : List ℕ → Type 0 = λ t. Appends before after t in subst P is.2 (all (λ five. omega arith)));
+  }
+
+  pub breaks : (a : Answer) → IsAnswer command bytes a → AppendsPart before after (bytes_of a) → Breaks words left rest before after
+  breaks a is part = record { command = command; bytes = bytes; answer = a; form = form; read = read; right = is; written = part }

@@ -1,0 +1,4 @@
+pub mod Words
+pub mod Refusal
+pub mod Answers
+pub mod Statuses

@@ -1,0 +1,41 @@
+//! Traces played over the plain table.
+ghost use Rattle.std.specs.Prelude.{◌≤◌, ◌^◌};
+
+use crate::run_serial;
+use lt_history::print;
+use lt_seq::SeqYard;
+use std::alloc::Global;
+use std::test::Fail;
+
+/// The transcript of a trace's run.
+fn transcript(alloc: Global, trace: &[u8], first: u64) -> Result<Vec<u8>, Fail>
+    requires { first ≤ 2 ^ 38 }
+{
+    let trace = lt_trace::read(alloc, trace)?;
+    let run = run_serial::<SeqYard>(alloc, &trace, first)?;
+    Ok(print(alloc, &run.receipts, &run.outcomes, run.places, run.used)?)
+}
+
+#[test]
+fn a_shared_endpoint_is_refused_and_what_is_open_is_ended(rt: HostRuntime) -> Result<(), Fail> {
+    let trace =
+        b"rangelock 1\ntrees 1\nlimit 64\nbuffer 0\n1 try 0 \"a\" \"c\"\n2 try 0 \"c\" \"e\"\n";
+    let text = transcript(rt.alloc(), trace, 0)?;
+    assert_eq!(rt;
+        text.as_slice(),
+        b"0 1 ask 0 \"a\" \"c\" granted\n1 2 ask 0 \"c\" \"e\" held by 1\n2 1 free 0 \"a\" \"c\" 1\ntxn 1 done\ntxn 2 done\nend 3 0\n".as_slice()
+    );
+    Ok(())
+}
+
+#[test]
+fn lines_behind_an_out_of_locks_are_dropped(rt: HostRuntime) -> Result<(), Fail> {
+    let trace =
+        b"rangelock 1\ntrees 1\nlimit 1\nbuffer 0\n2 try 0 \"a\" \"c\"\n2 try 0 \"e\" \"g\"\n2 try 0 \"a\" \"c\"\n2 end\n1 end\n";
+    let text = transcript(rt.alloc(), trace, 7)?;
+    assert_eq!(rt;
+        text.as_slice(),
+        b"7 2 ask 0 \"a\" \"c\" granted\n8 2 free 0 \"a\" \"c\" 1\ntxn 1 done\ntxn 2 outoflocks 8 1\nend 2 0\n".as_slice()
+    );
+    Ok(())
+}
