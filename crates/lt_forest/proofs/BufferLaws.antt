@@ -1,10 +1,9 @@
 -- Buffers: one begins, gets rows, ends as a tree or is dropped whole, and stays where its owner asks who holds.
-use Rattle.std.proofs.Common.{◌≡◌, inl, inr, ℕ, suc, ◌+◌, ◌<◌, ◌≤◌, List, [], ◌∷◌, ◌++◌, map, length, length-append, Bool, true, false, ◌&&◌, ◌==◌, nat_lt, if◌then◌else◌, set, refl, sym, ap, ap₂, ◌∙◌, subst, arith, eq-eqb}
+use Rattle.std.proofs.Common.{◌≡◌, ℕ, ◌+◌, ◌<◌, List, [], ◌∷◌, ◌++◌, map, length, length-append, Bool, true, ◌&&◌, ◌==◌, nat_lt, if◌then◌else◌, set, refl, sym, ap, ap₂, ◌∙◌, subst, arith, eq-eqb}
 use Rattle.std.proofs.lemmas.List.{set-get_or}
 use Rattle.std.proofs.lemmas.Bool.Decides.{nat_tests}
-use Rattle.std.specs.Prelude.{None, nat_eq}
 use Rattle.std.specs.List.{filter}
-use Rattle.lt_ranges.specs.Interval.{Interval, overlap}
+use Rattle.lt_ranges.specs.Interval.{Interval}
 use Rattle.lt_ranges.specs.Numbers.{ascending}
 use Rattle.lt_seq.specs.declared.event.Pair.{Pair}
 use Rattle.lt_seq.specs.declared.event.Mode.{Mode}
@@ -15,18 +14,18 @@ use Rattle.lt_seq.specs.declared.event.Deed.TheVariants.{Ask, Free, Who}
 use Rattle.lt_seq.specs.Pairs.{granted, freed, count_freed, others, is_others}
 use Rattle.lt_seq.specs.Sound.{AllOwn, IsOwned, AllSound}
 use Rattle.lt_seq.specs.Table.{Setting, TreeState, fresh, tree_at, tree_after, replied, tree_of, is_buffered, is_whole, pairs_by, reply_by, raised, mode_asked}
-use Rattle.lt_forest.specs.Counts.{one_if, times}
+use Rattle.lt_forest.specs.Counts.{times}
 use Rattle.lt_forest.specs.Bounds.{Gap}
-use Rattle.lt_forest.specs.Trees.{Node, Tree, leaf, node, Nodes, LeadsTo, in_order, pairs_in}
-use Rattle.lt_forest.specs.Cuts.{Cut, end, bare, links}
-use Rattle.lt_forest.specs.Forest.{Forest, Growth, search_tree, chain, rows_at, IsTree, IsChain, IsRun, folded, AllOf, Represents, IsForest, GapIn, ChangesOnly, KeepsModes, Becomes}
-use Rattle.lt_forest.specs.Plans.{MovesPool}
-use Rattle.lt_forest.specs.Buffers.{PutsFirst, Begins, Appends, buffered_state, Ends, Drops}
-use Rattle.lt_forest.proofs.SameRows.{times-++, one_here, one_equal, AgreeOn, on_left, on_right}
+use Rattle.lt_forest.specs.Trees.{Tree, leaf, node, Nodes, LeadsTo, in_order, pairs_in}
+use Rattle.lt_forest.specs.Cuts.{Cut, end, bare}
+use Rattle.lt_forest.specs.Forest.{NoRow, Forest, Growth, search_tree, chain, rows_at, IsTree, IsChain, IsRun, folded, AllOf, Represents, IsForest, GapIn, ChangesOnly, KeepsModes, Becomes}
+use Rattle.lt_forest.specs.Plans.{after_deed, IsReplied, MovesPool}
+use Rattle.lt_forest.specs.Buffers.{whole_free, PutsFirst, Begins, Appends, buffered_state, Ends, Drops}
+use Rattle.lt_forest.proofs.SameRows.{times-++, AgreeOn, on_left, on_right}
 use Rattle.lt_forest.proofs.Growing.{AllGrow, fill_leads}
 use Rattle.lt_forest.proofs.Chains.{total_has, chain_one, BeginsWith, cut_chain, join_chain, on_chain, on_run, on_owner, on_folded}
 use Rattle.lt_forest.proofs.StateLaws.{used_moves}
-use Rattle.lt_forest.proofs.ForestLaws.{TreeAt, as_tree, tree_represents, ChainAt, as_chain, at_most, one_place, changes_else, Moves, off, Regrows, regrown, regrown_forest, others_placed}
+use Rattle.lt_forest.proofs.ForestLaws.{TreeAt, as_tree, tree_represents, ChainAt, as_chain, one_place, changes_else, Moves, off, Regrows, regrown, regrown_forest, others_placed}
 
 -- no row of the tree has a gap
 abbrev NoGaps : Nodes → Growth → Type 0
@@ -35,11 +34,12 @@ NoGaps c g = (q : ℕ) (gap : Gap) → GapIn c g q gap → ⊥
 chain_gapless : (c : Nodes) (g : Growth) (rows : List ℕ) → g ≡ chain rows → NoGaps c g
 chain_gapless c g rows is q gap h = subst (λ (x : Growth). GapIn c x q gap) is h
 
-module _ {trees rows t : ℕ} {c d : Nodes} {mode mode' : ℕ → Mode} {state : List TreeState} {f : Forest} {after : TreeState} {moved : List ℕ}
+module _ {trees rows t : ℕ} {c d : Nodes} {mode mode' : ℕ → Mode} {state : List TreeState} {f : Forest} {after : TreeState}
+    {moved : List ℕ}
     {growth : Growth} {pool : List ℕ} (forest : IsForest trees rows c mode state f)
     (grows : Regrows trees t c d mode mode' f after moved growth pool) (gapless : NoGaps c (f.tree t)) where
   becomes : (gone come : ℕ) → length pool + come ≡ length f.pool + gone
-      → Becomes trees rows c d mode mode' state (set state t after) f (λ q. ⊥) gone come
+      → Becomes trees rows c d mode mode' state (set state t after) f NoRow gone come
   becomes gone come pools = record {
     next = regrown f t growth pool;
     forest = regrown_forest forest grows;
@@ -58,7 +58,8 @@ record IsBuffer (c : Nodes) (link : ℕ) (g : Growth) (pairs : List Pair) (txn c
   pub count_is : count ≡ length rs
   pub gapless : NoGaps c g
 
-module _ {trees rows t q txn count : ℕ} {range : Interval} {c d : Nodes} {mode mode' : ℕ → Mode} {state : List TreeState} {f : Forest} {rs : List ℕ}
+module _ {trees rows t q txn count : ℕ} {range : Interval} {c d : Nodes} {mode mode' : ℕ → Mode} {state : List TreeState}
+    {f : Forest} {rs : List ℕ}
     (forest : IsForest trees rows c mode state f) (tree : t < trees)
     (buffer : IsBuffer c (c t).left (f.tree t) (tree_at state t).pairs txn count rs)
     (puts : PutsFirst trees t q txn range c d) (now : mode' t ≡ Buffer txn (count + 1))
@@ -107,7 +108,7 @@ module _ {trees rows t q txn count : ℕ} {range : Interval} {c d : Nodes} {mode
         omega arith;
   }
 
-  puts_first : Becomes trees rows c d mode mode' state (set state t grant) f (λ q. ⊥) 0 1
+  puts_first : Becomes trees rows c d mode mode' state (set state t grant) f NoRow 0 1
   puts_first = becomes forest grows buffer.gapless 0 1 (let k = ap (λ (l : List ℕ). length l) rest.is in omega arith)
 
 -- a buffer begins
@@ -119,7 +120,8 @@ no_tree : (c : Nodes) (link : ℕ) (t : Tree) → LeadsTo c link t → link ≡ 
 no_tree c link leaf leads is = refl
 no_tree c link (node a r b) leads is = absurd (let e = leads.0 in omega arith)
 
-module _ {trees rows t q txn : ℕ} {range : Interval} {c d : Nodes} {mode mode' : ℕ → Mode} {state : List TreeState} {f : Forest} {setting : Setting}
+module _ {trees rows t q txn : ℕ} {range : Interval} {c d : Nodes} {mode mode' : ℕ → Mode} {state : List TreeState}
+    {f : Forest} {setting : Setting}
     (forest : IsForest trees rows c mode state f) (tree : t < trees) (begins : Begins setting trees t q txn range c d (mode t) (mode' t))
     (only : ChangesOnly (t ∷ trees ∷ q ∷ []) c d) (other_modes : KeepsModes t mode mode') where
   bare_tree : TreeAt c (c t).left (f.tree t) (tree_at state t).pairs
@@ -147,25 +149,29 @@ module _ {trees rows t q txn : ℕ} {range : Interval} {c d : Nodes} {mode mode'
   empty_state : tree_at state t ≡ fresh
   empty_state i = record { pairs = no_pairs i; mode = (sym (forest.modes t tree) ∙ begins.was) i }
 
-  after_begin : tree_after setting txn (Ask t range Buffered) (tree_at state t) ≡ record { pairs = granted txn range (tree_at state t).pairs; mode = Buffer txn 1 }
+  after_begin : tree_after setting txn (Ask t range Buffered) (tree_at state t)
+      ≡ record { pairs = granted txn range (tree_at state t).pairs; mode = Buffer txn 1 }
   after_begin =
       ap (tree_after setting txn (Ask t range Buffered)) empty_state
-      ∙ ((λ i. if is_less 0 setting.plan.buffer begins.room i then record { pairs = granted txn range []; mode = Buffer txn 1 } else record { pairs = pairs_by (others txn range []) txn range []; mode = TreeMode 100 })
+      ∙ ((λ i. if is_less 0 setting.plan.buffer begins.room i then record { pairs = granted txn range []; mode = Buffer txn 1 }
+      else record { pairs = pairs_by (others txn range []) txn range []; mode = TreeMode 100 })
       ∙ (λ i. record { pairs = granted txn range (sym no_pairs i); mode = Buffer txn 1 }))
 
-  pub begin_replies : replied setting txn (Ask t range Buffered) (tree_at state t) ≡ Ask t range Buffered
+  pub begin_replies : IsReplied setting txn (Ask t range Buffered) state
   begin_replies =
       ap (replied setting txn (Ask t range Buffered)) empty_state
       ∙ (λ i. Ask t range (if is_less 0 setting.plan.buffer begins.room i then Buffered else reply_by (others txn range [])))
 
-  pub begun : Becomes trees rows c d mode mode' state (set state t (tree_after setting txn (Ask t range Buffered) (tree_at state t))) f (λ q. ⊥) 0 1
-  begun = subst (λ (s : TreeState). Becomes trees rows c d mode mode' state (set state t s) f (λ q. ⊥) 0 1) (sym after_begin)
+  pub begun : Becomes trees rows c d mode mode' state (after_deed setting txn (Ask t range Buffered) state) f NoRow 0 1
+  begun = subst (λ (s : TreeState). Becomes trees rows c d mode mode' state (set state t s) f NoRow 0 1) (sym after_begin)
       (puts_first forest tree no_buffer begins.puts begins.now only other_modes)
 
 -- a buffer gets one row more
 
-module _ {trees rows t q txn count : ℕ} {range : Interval} {c d : Nodes} {mode mode' : ℕ → Mode} {state : List TreeState} {f : Forest} {setting : Setting}
-    (forest : IsForest trees rows c mode state f) (tree : t < trees) (appends : Appends setting trees t q txn count range c d (mode t) (mode' t))
+module _ {trees rows t q txn count : ℕ} {range : Interval} {c d : Nodes} {mode mode' : ℕ → Mode} {state : List TreeState}
+    {f : Forest} {setting : Setting}
+    (forest : IsForest trees rows c mode state f) (tree : t < trees)
+    (appends : Appends setting trees t q txn count range c d (mode t) (mode' t))
     (only : ChangesOnly (t ∷ trees ∷ q ∷ []) c d) (other_modes : KeepsModes t mode mode') where
   old_chain : ChainAt c (c t).left (f.tree t) (tree_at state t).pairs txn count
   old_chain = as_chain c (c t).left (f.tree t) (tree_at state t).pairs (mode t) txn count appends.was (forest.grown t tree)
@@ -186,27 +192,30 @@ module _ {trees rows t q txn count : ℕ} {range : Interval} {c d : Nodes} {mode
   old_state : tree_at state t ≡ record { pairs = (tree_at state t).pairs; mode = Buffer txn count }
   old_state i = record { pairs = (tree_at state t).pairs; mode = (sym (forest.modes t tree) ∙ appends.was) i }
 
-  after_append : tree_after setting txn (Ask t range Buffered) (tree_at state t) ≡ record { pairs = granted txn range (tree_at state t).pairs; mode = Buffer txn (count + 1) }
+  after_append : tree_after setting txn (Ask t range Buffered) (tree_at state t)
+      ≡ record { pairs = granted txn range (tree_at state t).pairs; mode = Buffer txn (count + 1) }
   after_append =
       ap (tree_after setting txn (Ask t range Buffered)) old_state
       ∙ (λ i. if fits i then record { pairs = granted txn range (tree_at state t).pairs; mode = Buffer txn (count + 1) }
       else record { pairs = pairs_by (others txn range (tree_at state t).pairs) txn range (tree_at state t).pairs; mode = TreeMode 0 })
 
-  pub append_replies : replied setting txn (Ask t range Buffered) (tree_at state t) ≡ Ask t range Buffered
+  pub append_replies : IsReplied setting txn (Ask t range Buffered) state
   append_replies =
       ap (replied setting txn (Ask t range Buffered)) old_state
       ∙ (λ i. Ask t range (if fits i then Buffered else reply_by (others txn range (tree_at state t).pairs)))
 
-  pub appended : Becomes trees rows c d mode mode' state (set state t (tree_after setting txn (Ask t range Buffered) (tree_at state t))) f (λ q. ⊥) 0 1
-  appended = subst (λ (s : TreeState). Becomes trees rows c d mode mode' state (set state t s) f (λ q. ⊥) 0 1) (sym after_append)
+  pub appended : Becomes trees rows c d mode mode' state (after_deed setting txn (Ask t range Buffered) state) f NoRow 0 1
+  appended = subst (λ (s : TreeState). Becomes trees rows c d mode mode' state (set state t s) f NoRow 0 1) (sym after_append)
       (puts_first forest tree old_buffer appends.puts appends.now only other_modes)
 
 -- a buffer ends
 
-module _ {trees rows txn owner count : ℕ} {c d : Nodes} {mode mode' : ℕ → Mode} {state : List TreeState} {f : Forest} {setting : Setting} {deed : Deed}
+module _ {trees rows txn owner count : ℕ} {c d : Nodes} {mode mode' : ℕ → Mode} {state : List TreeState} {f : Forest}
+    {setting : Setting} {deed : Deed}
     {olds : List ℕ} {new : Cut} {taken given : List ℕ} (forest : IsForest trees rows c mode state f) (tree : tree_of deed < trees)
     (ends : Ends setting txn owner count deed (tree_of deed) c d (mode (tree_of deed)) (mode' (tree_of deed)) olds new taken given)
-    (pool_moves : MovesPool trees c d taken given) (only : ChangesOnly (tree_of deed ∷ trees ∷ olds ++ taken) c d) (other_modes : KeepsModes (tree_of deed) mode mode') where
+    (pool_moves : MovesPool trees c d taken given) (only : ChangesOnly (tree_of deed ∷ trees ∷ olds ++ taken) c d)
+    (other_modes : KeepsModes (tree_of deed) mode mode') where
   abbrev t : ℕ
   t = tree_of deed
 
@@ -276,11 +285,11 @@ module _ {trees rows txn owner count : ℕ} {c d : Nodes} {mode mode' : ℕ → 
         omega (arith, length-append given unused.rest, length-append taken unused.rest);
   }
 
-  pub end_replies : replied setting txn deed (tree_at state (tree_of deed)) ≡ deed
+  pub end_replies : IsReplied setting txn deed state
   end_replies = ap (replied setting txn deed) (sym buffered) ∙ ends.replies
 
-  pub ended : Becomes trees rows c d mode mode' state (set state (tree_of deed) (tree_after setting txn deed (tree_at state (tree_of deed))))
-      f (λ q. ⊥) (length olds) (length (in_order (bare new)))
+  pub ended : Becomes trees rows c d mode mode' state (after_deed setting txn deed state)
+      f NoRow (length olds) (length (in_order (bare new)))
   ended = becomes forest regrows (chain_gapless c (f.tree t) ending.rows ending.is) (length olds) (length (in_order (bare new)))
       (let k = ap (λ (l : List ℕ). length l) unused.is in
       let m = ends.all_rows in
@@ -297,7 +306,8 @@ chain_run : (c : Nodes) (link last : ℕ) (front : List ℕ) → IsChain c link 
 chain_run c link last [] leads = leads.0
 chain_run c link last (r ∷ front) leads = (leads.0, chain_run c (c r).left last front leads.1)
 
-module _ {trees rows t owner count last : ℕ} {c d : Nodes} {mode mode' : ℕ → Mode} {state : List TreeState} {f : Forest} {front : List ℕ}
+module _ {trees rows t owner count last : ℕ} {c d : Nodes} {mode mode' : ℕ → Mode} {state : List TreeState} {f : Forest}
+    {front : List ℕ}
     (forest : IsForest trees rows c mode state f) (tree : t < trees)
     (drops : Drops trees t owner count c d (mode t) (mode' t) front last) (only : ChangesOnly (t ∷ trees ∷ last ∷ []) c d)
     (other_modes : KeepsModes t mode mode') where
@@ -332,7 +342,7 @@ module _ {trees rows t owner count last : ℕ} {c d : Nodes} {mode mode' : ℕ �
     all_owned : (owner == owner) && is_whole range ≡ true
     all_owned = ap₂ (λ (x y : Bool). x && y) (eq-eqb owner owner refl) whole
 
-    ends_whole : Ends setting owner owner count (Free t range first (length (folded owner c (front ++ last ∷ [])))) t c d
+    ends_whole : Ends setting owner owner count (whole_free t range first owner c (front ++ last ∷ [])) t c d
         (mode t) (mode' t) (front ++ last ∷ []) (end 0) [] (front ++ last ∷ [])
     ends_whole =
         let pairs : List Pair = folded owner c (front ++ last ∷ []) in
@@ -353,13 +363,12 @@ module _ {trees rows t owner count last : ℕ} {c d : Nodes} {mode mode' : ℕ �
     all_to_pool : MovesPool trees c d [] (front ++ last ∷ [])
     all_to_pool = record { rest = (c trees).left; takes = refl; gives = to_pool }
 
-    pub drop_replies : replied setting owner (Free t range first (length (folded owner c (front ++ last ∷ [])))) (tree_at state t)
-        ≡ Free t range first (length (folded owner c (front ++ last ∷ [])))
+    pub drop_replies : IsReplied setting owner (whole_free t range first owner c (front ++ last ∷ [])) state
     drop_replies = end_replies forest tree ends_whole all_to_pool dropped_only other_modes
 
     pub dropped : Becomes trees rows c d mode mode' state
-        (set state t (tree_after setting owner (Free t range first (length (folded owner c (front ++ last ∷ [])))) (tree_at state t)))
-        f (λ q. ⊥) (length (front ++ last ∷ [])) 0
+        (after_deed setting owner (whole_free t range first owner c (front ++ last ∷ [])) state)
+        f NoRow (length (front ++ last ∷ [])) 0
     dropped = ended forest tree ends_whole all_to_pool dropped_only other_modes
 
 -- the owner of a buffer asks who holds
@@ -380,7 +389,7 @@ module _ {trees rows t owner count : ℕ} {c : Nodes} {mode : ℕ → Mode} {sta
   mode_there : (tree_at state t).mode ≡ Buffer owner count
   mode_there = sym (forest.modes t tree) ∙ was
 
-  pub who_replies : replied setting txn (Who t range owner []) (tree_at state t) ≡ Who t range owner []
+  pub who_replies : IsReplied setting txn (Who t range owner []) state
   who_replies = ap (λ (l : List ℕ). Who t range owner l) (owner_alone owner count range (tree_at state t) (sound t).owned mode_there)
 
   kept_mode : (m : Mode) → m ≡ Buffer owner count → mode_asked owner m ≡ m
@@ -388,7 +397,7 @@ module _ {trees rows t owner count : ℕ} {c : Nodes} {mode : ℕ → Mode} {sta
       ap (mode_asked owner) is
       ∙ ((λ i. if eq-eqb owner owner refl i then Buffer owner count else TreeMode 0) ∙ sym is)
 
-  pub who_stays : set state t (tree_after setting txn (Who t range owner []) (tree_at state t)) ≡ state
+  pub who_stays : after_deed setting txn (Who t range owner []) state ≡ state
   who_stays =
       ap (λ (m : Mode). set state t (record { pairs = (tree_at state t).pairs; mode = m })) (kept_mode (tree_at state t).mode mode_there)
       ∙ set-get_or state t fresh

@@ -4,7 +4,6 @@ use Rattle.std.specs.List.{filter}
 use Rattle.std.proofs.lemmas.Bool.Decides.{nat_tests}
 use Rattle.lt_ranges.specs.Interval.{Interval, IsInterval}
 use Rattle.lt_seq.specs.declared.event.Pair.{Pair}
-use Rattle.lt_seq.specs.declared.event.Mode.{Mode}
 use Rattle.lt_seq.specs.declared.event.Mode.TheVariants.{Tree as TreeMode, Buffer}
 use Rattle.lt_seq.specs.declared.event.Reply.TheVariants.{Buffered}
 use Rattle.lt_seq.specs.declared.event.Deed.{Deed}
@@ -81,7 +80,8 @@ filter-drops_all : (xs : List Pair) → filter drops_all xs ≡ xs
 filter-drops_all [] = refl
 filter-drops_all (x ∷ xs) = ap (λ (l : List Pair). x ∷ l) (filter-drops_all xs)
 
-module _ (setting : Setting) (txn score : ℕ) (xs zs : List Pair) (lx : IsLawful xs) (lz : IsLawful zs) (le : length xs ≤ length zs) where
+module _ (setting : Setting) (txn score : ℕ) (xs zs : List Pair) (lx : IsLawful xs) (lz : IsLawful zs)
+    (le : length xs ≤ length zs) where
   pub deed_changes : (deed : Deed) → IsQuestion deed → FindsSame (range_of deed) zs xs
       → IsTree (tree_after setting txn deed (at_score xs score)).mode → DeedChange setting txn deed score xs zs
   deed_changes (Ask tree range reply) o found tree_mode =

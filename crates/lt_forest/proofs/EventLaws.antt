@@ -1,5 +1,5 @@
 -- A plan for an event in Tree mode, and one that changes no pair and no mode, keep the forest.
-use Rattle.std.proofs.Common.{◌≡◌, ℕ, ◌+◌, List, [], length, Bool, true, false, ◌&&◌, nat_lt, if◌then◌else◌, set, refl, sym, ap, ◌∙◌, subst}
+use Rattle.std.proofs.Common.{◌≡◌, ℕ, ◌+◌, List, [], Bool, true, false, ◌&&◌, nat_lt, if◌then◌else◌, refl, sym, ap, ◌∙◌, subst}
 use Rattle.std.proofs.lemmas.List.{set-get_or}
 use Rattle.lt_seq.specs.declared.event.Pair.{Pair}
 use Rattle.lt_seq.specs.declared.event.Mode.{Mode}
@@ -12,11 +12,11 @@ use Rattle.lt_forest.specs.Changes.{Change}
 use Rattle.lt_forest.specs.Trees.{Nodes, pairs_in}
 use Rattle.lt_forest.specs.Cuts.{Cut, bare}
 use Rattle.lt_forest.specs.Forest.{Forest, IsTree, KeepsModes}
-use Rattle.lt_forest.specs.Plans.{Top, IsPart, IsClosedFor, Lays, range_of, shown_state, ShowsDeed, same_pairs, in_range, Relaid}
+use Rattle.lt_forest.specs.Plans.{after_deed, IsReplied, Top, IsPart, IsClosedFor, Lays, range_of, shown_state, ShowsDeed, same_pairs, in_range, Relaid}
 use Rattle.lt_forest.proofs.PairChanges.{NoPair, drops_none, no_change}
 use Rattle.lt_forest.proofs.DeedChanges.{at_score, DeedChange, deed_changes, not_buffered}
 use Rattle.lt_forest.proofs.PartLaws.{part_lawful, part_fewer, part_finds}
-use Rattle.lt_forest.proofs.PlanLaws.{Remakes, relaid}
+use Rattle.lt_forest.proofs.PlanLaws.{relaid}
 
 pub score_of : (mode : Mode) → IsTree mode → (score : ℕ) × (mode ≡ TreeMode score)
 score_of (TreeMode score) is = (score, refl)
@@ -42,7 +42,8 @@ full_stays setting txn (Join tree before after) pairs is = refl
 
 -- an event
 
-module _ {trees rows : ℕ} {c d : Nodes} {mode mode' : ℕ → Mode} {state : List TreeState} {f : Forest} {setting : Setting} {txn : ℕ} {deed : Deed}
+module _ {trees rows : ℕ} {c d : Nodes} {mode mode' : ℕ → Mode} {state : List TreeState} {f : Forest} {setting : Setting}
+    {txn : ℕ} {deed : Deed}
     {top : Top} {cut new : Cut} {taken given : List ℕ} (part : IsPart trees rows c mode state f (tree_of deed) top cut)
     (lays : Lays trees (tree_of deed) top c d cut new taken given) (closed : IsClosedFor (range_of deed) top c cut)
     (shows : ShowsDeed setting txn deed c d cut new (mode (tree_of deed)) (mode' (tree_of deed)))
@@ -65,7 +66,7 @@ module _ {trees rows : ℕ} {c d : Nodes} {mode mode' : ℕ → Mode} {state : L
       (subst IsTree (shows.mode ∙ ap (λ (x : TreeState). (tree_after setting txn deed x).mode) (sym shown_is)) shows.is_tree)
 
   -- the replies are those of the table
-  pub deed_replies : replied setting txn deed (tree_at state (tree_of deed)) ≡ deed
+  pub deed_replies : IsReplied setting txn deed state
   deed_replies =
       ap (replied setting txn deed) (sym whole_state)
       ∙ (change.replies ∙ (ap (replied setting txn deed) shown_is ∙ shows.replies))
@@ -76,7 +77,7 @@ module _ {trees rows : ℕ} {c d : Nodes} {mode mode' : ℕ → Mode} {state : L
       shows.mode ∙ (λ i. (tree_after setting txn deed (record { pairs = pairs_in c (bare cut); mode = full i })).mode) in
       at ∙ full_stays setting txn deed (pairs_in c (bare cut)) (subst IsTree at shows.is_tree)
 
-  pub event_relaid : Relaid trees rows c d mode mode' state (set state (tree_of deed) (tree_after setting txn deed (tree_at state (tree_of deed))))
+  pub event_relaid : Relaid trees rows c d mode mode' state (after_deed setting txn deed state)
       f (tree_of deed) top cut new
   event_relaid =
       let after : TreeState → TreeState = tree_after setting txn deed in

@@ -1,5 +1,5 @@
 -- A forest in which the growth below one anchor is replaced: the other trees and the rest of the pool stay.
-use Rattle.std.proofs.Common.{◌≡◌, ◌≢◌, inl, inr, ℕ, ◌+◌, ◌<◌, ◌≤◌, List, [], ◌∷◌, length, length-set, Bool, set, refl, sym, ap, ◌∙◌, subst, arith, eq-eqb, ne_eqb, get_or-set_same, get_or-set_other}
+use Rattle.std.proofs.Common.{◌≡◌, ◌≢◌, ℕ, ◌+◌, ◌<◌, ◌≤◌, List, ◌∷◌, length, length-set, Bool, set, refl, sym, ap, ◌∙◌, subst, arith, eq-eqb, ne_eqb, get_or-set_same, get_or-set_other}
 use Rattle.std.specs.Prelude.{None, nat_eq, if◌then◌else◌}
 use mathlib.Core.Logic.{dite}
 use native.Mathlib.Decide.{ℕ_discrete}
@@ -10,10 +10,10 @@ use Rattle.lt_seq.specs.Table.{TreeState, fresh, tree_at}
 use Rattle.lt_forest.specs.Counts.{one_if, times, total}
 use Rattle.lt_forest.specs.Bounds.{Gap}
 use Rattle.lt_forest.specs.Trees.{Node, Tree, Nodes, LeadsTo, pairs_in}
-use Rattle.lt_forest.specs.Forest.{Forest, Growth, search_tree, chain, rows_at, IsTree, IsChain, AllOf, folded, Represents, stands, IsForest, GapIn, IsPlaced, put, ChangesOnly, KeepsModes, Becomes}
+use Rattle.lt_forest.specs.Forest.{Forest, Growth, search_tree, chain, rows_at, IsTree, IsChain, AllOf, folded, Represents, stands, IsForest, GapIn, IsPlaced, put, ChangesOnly, KeepsModes}
 use Rattle.lt_forest.proofs.TreeLaws.{gap_stays, leads_stays, pairs_stay}
 use Rattle.lt_forest.proofs.SameRows.{AgreeOn, on_tree}
-use Rattle.lt_forest.proofs.Chains.{total_has, total_two, total_same, total_change, on_chain, on_owner, on_folded}
+use Rattle.lt_forest.proofs.Chains.{total_has, total_two, total_change, on_chain, on_owner, on_folded}
 
 pub none_else : (q r : ℕ) → q ≢ r → one_if (nat_eq r q) ≡ 0
 none_else q r ne = ap one_if (ne_eqb r q (λ e. ne (sym e)))
@@ -99,7 +99,8 @@ pub gap_in_stays : (c d : Nodes) (g : Growth) (q : ℕ) (gap : Gap) → AgreeOn 
 gap_in_stays c d (search_tree t) q gap same h = gap_stays c d t None None None None q gap (on_tree c d t same) tt tt h
 gap_in_stays c d (chain rows) q gap same h = absurd h
 
-module _ {trees rows : ℕ} {c : Nodes} {mode : ℕ → Mode} {state : List TreeState} {f : Forest} (forest : IsForest trees rows c mode state f) where
+module _ {trees rows : ℕ} {c : Nodes} {mode : ℕ → Mode} {state : List TreeState} {f : Forest}
+    (forest : IsForest trees rows c mode state f) where
   -- each row stands at most once
   pub at_most : (q : ℕ) → stands trees f q ≤ 1
   at_most q = dite (ℕ_discrete (stands trees f q) 0)
@@ -162,7 +163,8 @@ pub record Regrows (trees t : ℕ) (c d : Nodes) (mode mode' : ℕ → Mode) (f 
 abbrev pub regrown : Forest → ℕ → Growth → List ℕ → Forest
 regrown f t growth pool = record { tree = put f.tree t growth; pool = pool }
 
-module _ {trees rows t : ℕ} {c d : Nodes} {mode mode' : ℕ → Mode} {state : List TreeState} {f : Forest} {after : TreeState} {moved : List ℕ}
+module _ {trees rows t : ℕ} {c d : Nodes} {mode mode' : ℕ → Mode} {state : List TreeState} {f : Forest} {after : TreeState}
+    {moved : List ℕ}
     {growth : Growth} {pool : List ℕ} (forest : IsForest trees rows c mode state f)
     (grows : Regrows trees t c d mode mode' f after moved growth pool) where
   stands_same : (q : ℕ) → stands trees (regrown f t growth pool) q ≡ stands trees f q
@@ -203,15 +205,18 @@ module _ {trees rows t : ℕ} {c d : Nodes} {mode mode' : ℕ → Mode} {state :
       (λ e. subst (λ (n : ℕ). Represents d (d n).left (put f.tree t growth n) (tree_at (set state t after) n).pairs (mode' n)) (sym e)
       (subst (λ (x : Growth). Represents d (d t).left x (tree_at (set state t after) t).pairs (mode' t)) (sym (put_here f.tree t growth))
       (subst (λ (x : TreeState). Represents d (d t).left growth x.pairs (mode' t)) (sym now_here) grows.grown)))
-      (λ ne. subst (λ (x : Growth). Represents d (d s).left x (tree_at (set state t after) s).pairs (mode' s)) (sym (put_else f.tree t s growth ne))
+      (λ ne. subst (λ (x : Growth). Represents d (d s).left x (tree_at (set state t after) s).pairs (mode' s))
+      (sym (put_else f.tree t s growth ne))
       (subst (λ (x : TreeState). Represents d (d s).left (f.tree s) x.pairs (mode' s)) (sym (now_else s ne))
       (subst (λ (m : Mode). Represents d (d s).left (f.tree s) (tree_at state s).pairs m) (grows.other_modes s ne)
       (subst (λ (n : Node). Represents d n.left (f.tree s) (tree_at state s).pairs (mode s)) (anchors forest grows.moves s lt' ne)
-      (represents_stay c d (c s).left (f.tree s) (tree_at state s).pairs (mode s) (elsewhere forest grows.moves s lt' ne) (forest.grown s lt'))))))
+      (represents_stay c d (c s).left (f.tree s) (tree_at state s).pairs (mode s)
+      (elsewhere forest grows.moves s lt' ne) (forest.grown s lt'))))))
 
   new_modes : (s : ℕ) → s < trees → mode' s ≡ (tree_at (set state t after) s).mode
   new_modes s lt' = dite (ℕ_discrete s t)
-      (λ e. subst (λ (n : ℕ). mode' n ≡ (tree_at (set state t after) n).mode) (sym e) (grows.mode_is ∙ ap (λ (x : TreeState). x.mode) (sym now_here)))
+      (λ e. subst (λ (n : ℕ). mode' n ≡ (tree_at (set state t after) n).mode) (sym e)
+      (grows.mode_is ∙ ap (λ (x : TreeState). x.mode) (sym now_here)))
       (λ ne. sym (grows.other_modes s ne) ∙ (forest.modes s lt' ∙ ap (λ (x : TreeState). x.mode) (sym (now_else s ne))))
 
   pub regrown_forest : IsForest trees rows d mode' (set state t after) (regrown f t growth pool)
@@ -236,7 +241,8 @@ module _ {trees rows t : ℕ} {c d : Nodes} {mode mode' : ℕ → Mode} {state :
         tree = placed.tree;
         gap = subst (λ (n : ℕ). GapIn d (put f.tree t growth n) q g) (sym e)
             (subst (λ (x : Growth). GapIn d x q g) (sym (put_here f.tree t growth)) h.0);
-        full = λ full. subst (λ (n : ℕ). mode' n ≡ TreeMode 100) (sym e) (h.1 (subst (λ (n : ℕ). mode n ≡ TreeMode 100) e (placed.full full)));
+        full = λ full. subst (λ (n : ℕ). mode' n ≡ TreeMode 100) (sym e)
+            (h.1 (subst (λ (n : ℕ). mode n ≡ TreeMode 100) e (placed.full full)));
       })
       (λ ne. record {
         tree = placed.tree;

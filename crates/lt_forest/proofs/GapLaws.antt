@@ -1,17 +1,17 @@
 -- The gaps of rows: each row has one, and a child's is its parent's, cut at the parent's range.
-use Rattle.std.proofs.Common.{◌≡◌, ◌⊎◌, inl, inr, ℕ, ◌+◌, ◌<◌, ◌≤◌, List, ◌∷◌, refl, sym, ap, ◌∙◌, subst, arith, ne_eqb}
+use Rattle.std.proofs.Common.{◌≡◌, inl, inr, ℕ, ◌+◌, ◌<◌, ◌≤◌, List, ◌∷◌, refl, sym, ap, ◌∙◌, subst, arith, ne_eqb}
 use Rattle.std.specs.Prelude.{nat_eq, None}
 use mathlib.Core.Logic.{dite}
 use native.Mathlib.Decide.{ℕ_discrete}
 use Rattle.lt_seq.specs.declared.event.Mode.{Mode}
 use Rattle.lt_seq.specs.declared.event.Mode.TheVariants.{Tree as TreeMode, Buffer}
 use Rattle.lt_seq.specs.Table.{TreeState, tree_at}
-use Rattle.lt_forest.specs.Counts.{one_if, times, total}
+use Rattle.lt_forest.specs.Counts.{one_if, times}
 use Rattle.lt_forest.specs.Bounds.{Bound, Gap, Within}
 use Rattle.lt_forest.specs.Trees.{Tree, leaf, node, Nodes, left_end, right_end, LeadsTo, in_order, IsGap, HasGap}
 use Rattle.lt_forest.specs.Forest.{Forest, Growth, search_tree, chain, rows_at, IsTree, Represents, IsForest, GapIn, IsPlaced}
 use Rattle.lt_forest.proofs.BoundLaws.{greater_same, less_same}
-use Rattle.lt_forest.proofs.SameRows.{times-++, one_here, one_equal}
+use Rattle.lt_forest.proofs.SameRows.{times-++, one_equal}
 use Rattle.lt_forest.proofs.ForestLaws.{TreeAt, as_tree, at_most}
 use Rattle.lt_forest.proofs.Chains.{total_has}
 
@@ -141,17 +141,20 @@ pub seen_left : (c : Nodes) (t : Tree) (link : ℕ) (x y : Bound) (p r : ℕ) (g
     → (c p).left ≡ r + 1 → HasGap c t x y r (g.0, left_end c p)
 seen_left c t link x y p r g leads h is =
     let k = has_is c t x y p g h in
-    is_has c t x y r (g.0, left_end c p) (k.0.0, left_end c p) (gap_left c t link x y p r k.0 leads k.1 is) (k.2.0, less_same (left_end c p))
+    is_has c t x y r (g.0, left_end c p) (k.0.0, left_end c p) (gap_left c t link x y p r k.0 leads k.1 is)
+    (k.2.0, less_same (left_end c p))
 
 pub seen_right : (c : Nodes) (t : Tree) (link : ℕ) (x y : Bound) (p r : ℕ) (g : Gap) → LeadsTo c link t → HasGap c t x y p g
     → (c p).right ≡ r + 1 → HasGap c t x y r (right_end c p, g.1)
 seen_right c t link x y p r g leads h is =
     let k = has_is c t x y p g h in
-    is_has c t x y r (right_end c p, g.1) (right_end c p, k.0.1) (gap_right c t link x y p r k.0 leads k.1 is) (greater_same (right_end c p), k.2.1)
+    is_has c t x y r (right_end c p, g.1) (right_end c p, k.0.1) (gap_right c t link x y p r k.0 leads k.1 is)
+    (greater_same (right_end c p), k.2.1)
 
 -- and over a forest
 
-module _ {trees rows : ℕ} {c : Nodes} {mode : ℕ → Mode} {state : List TreeState} {f : Forest} (forest : IsForest trees rows c mode state f) where
+module _ {trees rows : ℕ} {c : Nodes} {mode : ℕ → Mode} {state : List TreeState} {f : Forest}
+    (forest : IsForest trees rows c mode state f) where
   pub row_gap : (t : ℕ) (x : Tree) (q : ℕ) → t < trees → f.tree t ≡ search_tree x → 0 < times q (in_order x)
       → (g : Gap) × IsGap c x None None q g × ((k : Gap) → IsGap c x None None q k → k ≡ g)
   row_gap t x q lt is some =

@@ -1,5 +1,5 @@
 -- A cut filled with the trees that hang: its rows, pairs, order and gaps.
-use Rattle.std.proofs.Common.{◌≡◌, ◌⊎◌, inl, inr, ℕ, zero, suc, ◌+◌, List, [], ◌∷◌, ◌++◌, map, length, length-append, Bool, true, false, refl, sym, ap, ap₂, ◌∙◌, subst, arith}
+use Rattle.std.proofs.Common.{◌≡◌, ◌⊎◌, inl, inr, ℕ, zero, suc, ◌+◌, List, [], ◌∷◌, ◌++◌, map, length, length-append, Bool, true, false, sym, ap, ap₂, ◌∙◌, subst, arith}
 use Rattle.std.specs.Prelude.{Some, None}
 use Rattle.std.specs.List.{filter}
 use Rattle.lt_ranges.specs.declared.key.Key.{Key}
@@ -16,7 +16,7 @@ use Rattle.lt_forest.proofs.BoundLaws.{lt_le, le_lt}
 use Rattle.lt_forest.proofs.PairLists.{map_app, has_left, has_right, has_either, clear_by, filter_app, filter_clear}
 use Rattle.lt_forest.proofs.TreeLaws.{Agree, ordered_stays, gap_stays}
 use Rattle.lt_forest.proofs.TreeOrders.{pairs_in-node, has_node, node_has, all_inside}
-use Rattle.lt_forest.proofs.SameRows.{times-++, AgreeOn, on_left, on_right, on_tree}
+use Rattle.lt_forest.proofs.SameRows.{times-++, one_equal, AgreeOn, on_left, on_right, on_tree}
 use Rattle.lt_forest.proofs.EndLaws.{all_app, all_left, all_right, aside_at, links_of, links_of-ends}
 
 -- the rows that hang below these links
@@ -213,15 +213,17 @@ module _ (H : ℕ → Tree) (empty : H 0 ≡ leaf) where
       → HasGap c (fill H cut) x y q g → InEnds c H (ends c cut x y) q g
   out_of c (end zero) x y q g out h = absurd (subst (λ (t : Tree). HasGap c t x y q g) empty h)
   out_of c (end (suc l)) x y q g out h = inl h
-  out_of c (held a r b) x y q g out h = elim h [
-    | inl m ↦ absurd (out (inl m.0))
-    | inr m ↦ elim m [
-      | inl l ↦ in_left c (ends c a x (left_end c r)) (ends c b (right_end c r) y) q g
-          (out_of c a x (left_end c r) q g (λ i. out (inr (inl i))) l)
-      | inr u ↦ in_right c (ends c a x (left_end c r)) (ends c b (right_end c r) y) q g
-          (out_of c b (right_end c r) y q g (λ i. out (inr (inr i))) u)
-    ]
-  ]
+  out_of c (held a r b) x y q g out h =
+      let s = times-++ q (in_order (bare a)) (r ∷ in_order (bare b)) in
+      elim h [
+        | inl m ↦ let o = one_equal q r m.0 in absurd (out (omega arith))
+        | inr m ↦ elim m [
+          | inl l ↦ in_left c (ends c a x (left_end c r)) (ends c b (right_end c r) y) q g
+              (out_of c a x (left_end c r) q g (λ i. out (omega arith)) l)
+          | inr u ↦ in_right c (ends c a x (left_end c r)) (ends c b (right_end c r) y) q g
+              (out_of c b (right_end c r) y q g (λ i. out (omega arith)) u)
+        ]
+      ]
 
   pub into : (c : Nodes) (cut : Cut) (x y : Bound) (q : ℕ) (g : Gap) → InEnds c H (ends c cut x y) q g → HasGap c (fill H cut) x y q g
   into c (end zero) x y q g h = absurd h
@@ -231,7 +233,8 @@ module _ (H : ℕ → Tree) (empty : H 0 ≡ leaf) where
     | inr u ↦ inr (inr (into c b (right_end c r) y q g u))
   ]
 
-  pub looser_gap : (c d : Nodes) (es fs : List End) (q : ℕ) (g : Gap) → Looser es fs → AgreeEnds c d H es → InEnds c H es q g → InEnds d H fs q g
+  pub looser_gap : (c d : Nodes) (es fs : List End) (q : ℕ) (g : Gap) → Looser es fs → AgreeEnds c d H es
+      → InEnds c H es q g → InEnds d H fs q g
   looser_gap c d [] fs q g loose same h = absurd h
   looser_gap c d (h ∷ hs) [] q g loose same i = absurd loose
   looser_gap c d (h ∷ hs) (k ∷ ks) q g loose same i = elim i [

@@ -1,5 +1,5 @@
 -- Rows laid out in two halves round a row, and rows that hold a layout.
-use Rattle.std.proofs.Common.{◌≡◌, inl, inr, ◌⊎◌, ℕ, zero, suc, ◌+◌, ◌-◌, ◌*◌, ◌/◌, ◌^◌, ◌<◌, ◌≤◌, max, List, [], ◌∷◌, ◌++◌, length, length-append, take, drop, get_or, refl, sym, ap, ap₂, ◌∙◌, subst, arith, append_assoc, append-nil, drop-cons, length-drop, length-take-le}
+use Rattle.std.proofs.Common.{◌≡◌, inl, inr, ◌⊎◌, ℕ, suc, ◌+◌, ◌-◌, ◌*◌, ◌/◌, ◌^◌, ◌<◌, ◌≤◌, max, List, [], ◌∷◌, ◌++◌, length, length-append, take, drop, get_or, refl, sym, ap, ap₂, ◌∙◌, subst, arith, append_assoc, append-nil, drop-cons, length-drop, length-take-le}
 use mathlib.Core.Logic.{dite}
 use native.Mathlib.Decide.{dec_le}
 use Rattle.std.proofs.Math.Nat.{max-eq_left, max-eq_right}
@@ -10,7 +10,7 @@ use Rattle.lt_forest.specs.declared.part.Placed.{Placed}
 use Rattle.lt_forest.specs.Trees.{Nodes}
 use Rattle.lt_forest.specs.Cuts.{Cut, end, held, Shows, depth}
 use Rattle.lt_forest.specs.Parts.{numbers}
-use Rattle.lt_forest.specs.Layouts.{IsLaid, ShowsInOrder, IsLayout, LaysOut, HoldsPlaced}
+use Rattle.lt_forest.specs.Layouts.{IsLaid, LaysOut, HoldsPlaced}
 
 -- depth
 

@@ -1,6 +1,6 @@
 -- What the links of a forest say: each is 0 or names a further row, no row is named by two, and none leads back.
-use Rattle.std.proofs.Common.{◌≡◌, ◌≢◌, ◌⊎◌, inl, inr, ℕ, zero, suc, ◌+◌, ◌-◌, ◌<◌, ◌≤◌, List, [], ◌∷◌, ◌++◌, map, refl, sym, ap, ap₂, ◌∙◌, subst, arith, eq-eqb, ne_eqb}
-use Rattle.std.specs.Prelude.{nat_eq, None}
+use Rattle.std.proofs.Common.{◌≡◌, ◌≢◌, ◌⊎◌, inl, inr, ℕ, ◌+◌, ◌-◌, ◌<◌, ◌≤◌, List, [], ◌∷◌, ◌++◌, map, refl, sym, ap, ◌∙◌, subst, arith, eq-eqb, ne_eqb}
+use Rattle.std.specs.Prelude.{nat_eq}
 use mathlib.Core.Logic.{dite}
 use native.Mathlib.Decide.{ℕ_discrete}
 use Rattle.lt_seq.specs.declared.event.Mode.{Mode}
@@ -9,14 +9,10 @@ use Rattle.lt_seq.specs.Table.{TreeState, tree_at}
 use Rattle.lt_forest.specs.Counts.{one_if, times}
 use Rattle.lt_forest.specs.Bounds.{Gap}
 use Rattle.lt_forest.specs.Trees.{Tree, leaf, node, Nodes, LeadsTo, in_order}
-use Rattle.lt_forest.specs.Paths.{plug, front, back, last_link}
-use Rattle.lt_forest.specs.Forest.{Forest, Growth, search_tree, chain, rows_at, IsChain, IsRun, Represents, stands, IsForest, GapIn, IsPlaced}
-use Rattle.lt_forest.specs.Links.{Slot, left_of, right_of, row_with, link_in, IsLinkOf, IsAnchorLink, IsLink, Leads, by_link, and_on}
-use Rattle.lt_forest.proofs.BoundLaws.{greater_same, less_same}
-use Rattle.lt_forest.proofs.PairLists.{map_app}
-use Rattle.lt_forest.proofs.TreeLaws.{FoundAt, found, inner_leads, in_order-plug}
-use Rattle.lt_forest.proofs.SameRows.{times-++, one_here, one_equal}
-use Rattle.lt_forest.proofs.Chains.{total_has, total_two, BeginsWith, cut_chain}
+use Rattle.lt_forest.specs.Forest.{Forest, Growth, search_tree, chain, rows_at, IsChain, Represents, stands, IsForest, IsPlaced}
+use Rattle.lt_forest.specs.Links.{Slot, left_of, right_of, link_in, IsLinkOf, IsAnchorLink, IsLink}
+use Rattle.lt_forest.proofs.SameRows.{times-++}
+use Rattle.lt_forest.proofs.Chains.{total_has, total_two}
 use Rattle.lt_forest.proofs.ForestLaws.{at_most, one_place}
 use Rattle.lt_forest.proofs.GapLaws.{gap_in_stands}
 
@@ -175,7 +171,8 @@ place_of trees f s h = elim h [
         (λ e. inr (subst (λ (n : ℕ). HasSlot (left_of n) (slots_along (left_of trees) f.pool)) (sym e) (top_slot (left_of trees) (chain f.pool))))
         (λ ne. inl (r, omega arith, top_slot (left_of r) (f.tree r)))
 
-module _ {trees rows : ℕ} {c : Nodes} {mode : ℕ → Mode} {state : List TreeState} {f : Forest} (forest : IsForest trees rows c mode state f) where
+module _ {trees rows : ℕ} {c : Nodes} {mode : ℕ → Mode} {state : List TreeState} {f : Forest}
+    (forest : IsForest trees rows c mode state f) where
   named_in_tree : (t r : ℕ) → t < trees → times (r + 1) (values c (slots_at (left_of t) (f.tree t))) ≡ times r (rows_at (f.tree t))
   named_in_tree t r lt = by_growth (f.tree t) (mode t) (forest.grown t lt)
     where

@@ -155,7 +155,8 @@ own_gone : (x : Pair) (rest : List Pair) (b : Bool) → b ≡ true → rest ≡ 
 own_gone x rest true is e = e
 own_gone x rest false is e = absurd (differ false is refl)
 
-pub freed-own : (txn : ℕ) (range : Interval) (ys : List Pair) → ((p : Pair) → Has p ys → is_own txn range p ≡ true) → freed txn range ys ≡ []
+pub freed-own : (txn : ℕ) (range : Interval) (ys : List Pair) → ((p : Pair) → Has p ys → is_own txn range p ≡ true)
+    → freed txn range ys ≡ []
 freed-own txn range [] own = refl
 freed-own txn range (y ∷ ys) own =
     own_gone y (freed txn range ys) (is_own txn range y) (own y (inl refl)) (freed-own txn range ys (λ p h. own p (inr h)))

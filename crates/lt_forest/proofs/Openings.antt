@@ -1,16 +1,15 @@
 -- The forest of a table at the start: no tree has a row, and all further rows are in the pool.
-use Rattle.std.proofs.Common.{◌≡◌, ◌≢◌, inl, inr, ℕ, zero, suc, ◌+◌, ◌-◌, ◌<◌, ◌≤◌, List, [], ◌∷◌, length, replicate, get_or, refl, sym, ap, ◌∙◌, subst, arith, eq-eqb, ne_eqb}
+use Rattle.std.proofs.Common.{◌≡◌, ℕ, zero, suc, ◌+◌, ◌-◌, ◌<◌, ◌≤◌, length, replicate, refl, sym, ap, subst, arith, eq-eqb, ne_eqb}
 use Rattle.std.specs.Prelude.{nat_eq}
 use Rattle.std.proofs.lemmas.List.{length-replicate}
 use mathlib.Core.Logic.{dite}
 use native.Mathlib.Decide.{ℕ_discrete}
-use Rattle.lt_seq.specs.declared.event.Mode.{Mode}
 use Rattle.lt_seq.specs.declared.event.Mode.TheVariants.{Tree as TreeMode}
 use Rattle.lt_seq.specs.Passes.{numbers_from}
 use Rattle.lt_seq.specs.Table.{TreeState, fresh, tree_at}
 use Rattle.lt_forest.specs.Counts.{one_if, times, total}
 use Rattle.lt_forest.specs.Trees.{Nodes}
-use Rattle.lt_forest.specs.Forest.{Forest, IsChain, IsForest}
+use Rattle.lt_forest.specs.Forest.{IsChain, IsForest}
 use Rattle.lt_forest.specs.Openings.{IsOpening, opening_forest}
 
 total_zero : (n : ℕ) → total (λ _. 0) n ≡ 0

@@ -37,7 +37,8 @@ hanging-++ [] ys r (l ∷ m ∷ ls) ms x y e = absurd e
 hanging-++ (z ∷ xs) ys r [] ms x y e = absurd e
 hanging-++ (z ∷ xs) ys r (l ∷ ls) ms x y e =
     ap (λ (es : List End). end_if l x (Some z.range.left) ++ es) (hanging-++ xs ys r ls ms (Some z.range.right) y e)
-    ∙ sym (append_assoc (end_if l x (Some z.range.left)) (hanging xs ls (Some z.range.right) (Some r.range.left)) (hanging ys ms (Some r.range.right) y))
+    ∙ sym (append_assoc (end_if l x (Some z.range.left)) (hanging xs ls (Some z.range.right) (Some r.range.left))
+    (hanging ys ms (Some r.range.right) y))
 
 -- the ends of a cut are those of its rows and links in key order
 pub ends-hanging : (c : Nodes) (cut : Cut) (x y : Bound) → ends c cut x y ≡ hanging (rows_of c cut) (hangs_of cut) x y
@@ -48,7 +49,8 @@ ends-hanging c (held a r b) x y =
     ∙ ap (λ (rs : List PartRow). hanging rs (hangs_of a ++ hangs_of b) x y) (sym (rows_of-held c a b r)))
 
 -- and those of the items
-pub hanging-items : (rows : List PartRow) (ls : List ℕ) (x y : Bound) → IsEven rows ls → hanging rows ls x y ≡ between (items rows ls) x y
+pub hanging-items : (rows : List PartRow) (ls : List ℕ) (x y : Bound) → IsEven rows ls
+    → hanging rows ls x y ≡ between (items rows ls) x y
 hanging-items [] [] x y e = absurd e
 hanging-items [] (zero ∷ []) x y e = refl
 hanging-items [] (suc l ∷ []) x y e = refl
@@ -117,7 +119,8 @@ next_row-++ [] js y = refl
 next_row-++ (row r ∷ is) js y = refl
 next_row-++ (hang l ∷ is) js y = next_row-++ is js y
 
-pub between-++ : (is js : List Item) (x y : Bound) → between (is ++ js) x y ≡ between is x (next_row js y) ++ between js (last_row is x) y
+pub between-++ : (is js : List Item) (x y : Bound)
+    → between (is ++ js) x y ≡ between is x (next_row js y) ++ between js (last_row is x) y
 between-++ [] js x y = refl
 between-++ (row r ∷ is) js x y = between-++ is js (Some r.range.right) y
 between-++ (hang l ∷ is) js x y =
@@ -131,7 +134,8 @@ pub last_row-rows : (rows : List PartRow) (x : Bound) → last_row (rows_only ro
 last_row-rows [] x = refl
 last_row-rows (r ∷ rows) x = last_row-rows rows (Some r.range.right)
 
-pub next_row-rows : (rows : List PartRow) (js : List Item) (y : Bound) → next_row (rows_only rows ++ js) y ≡ first_end rows (next_row js y)
+pub next_row-rows : (rows : List PartRow) (js : List Item) (y : Bound)
+    → next_row (rows_only rows ++ js) y ≡ first_end rows (next_row js y)
 next_row-rows [] js y = refl
 next_row-rows (r ∷ rows) js y = refl
 

@@ -1,20 +1,19 @@
 -- A part of a forest: where it stands, and what it shows of its tree.
-use Rattle.std.proofs.Common.{◌≡◌, inl, inr, ℕ, suc, ◌+◌, ◌<◌, ◌≤◌, List, [], ◌∷◌, ◌++◌, map, length, Bool, true, refl, sym, ap, ◌∙◌, subst, arith}
+use Rattle.std.proofs.Common.{◌≡◌, inl, inr, ℕ, suc, ◌+◌, ◌<◌, ◌≤◌, List, [], ◌∷◌, ◌++◌, map, length, true, refl, sym, ap, ◌∙◌, subst, arith}
 use Rattle.std.specs.Prelude.{None}
 use Rattle.std.specs.List.{filter}
 use Rattle.lt_ranges.specs.Interval.{Interval, overlap}
 use Rattle.lt_seq.specs.declared.event.Pair.{Pair}
 use Rattle.lt_seq.specs.declared.event.Mode.{Mode}
 use Rattle.lt_seq.specs.Pairs.{IsLawful}
-use Rattle.lt_seq.specs.Sound.{AllSound}
 use Rattle.lt_seq.specs.Table.{TreeState, tree_at}
 use Rattle.lt_forest.specs.Counts.{times}
-use Rattle.lt_forest.specs.Bounds.{Bound, Gap, IsInside, NoGreater, NoLess, Within}
+use Rattle.lt_forest.specs.Bounds.{Bound, Gap, IsInside, NoGreater, NoLess}
 use Rattle.lt_forest.specs.Changes.{Has}
-use Rattle.lt_forest.specs.Trees.{Tree, leaf, node, Nodes, pair_of, left_end, right_end, LeadsTo, in_order, pairs_in}
+use Rattle.lt_forest.specs.Trees.{Tree, node, Nodes, pair_of, left_end, right_end, LeadsTo, in_order, pairs_in}
 use Rattle.lt_forest.specs.Paths.{Path, here, plug, front, back, lower, upper, last_link}
 use Rattle.lt_forest.specs.Cuts.{Cut, end, held, Shows, fill, bare, links, HasCutGap}
-use Rattle.lt_forest.specs.Forest.{Forest, Growth, search_tree, rows_at, IsForest, GapIn}
+use Rattle.lt_forest.specs.Forest.{Forest, Growth, search_tree, rows_at, GapIn}
 use Rattle.lt_forest.specs.Plans.{Top, from_anchor, from_row, top_link, IsInGap, IsSeen, KeepsLink, HasPartGap, IsPart, IsClosedFor}
 use Rattle.lt_forest.proofs.BoundLaws.{above_wider, below_wider, greater_same, less_same, greater_trans, less_trans}
 use Rattle.lt_forest.proofs.TreeLaws.{AgreePath, found, inner_leads, plug_leads, in_order-plug}

@@ -1,5 +1,5 @@
 -- No row of a forest leads back to itself, and whose links are followed.
-use Rattle.std.proofs.Common.{◌≡◌, ◌⊎◌, inl, inr, ℕ, zero, suc, ◌+◌, ◌<◌, ◌≤◌, List, [], ◌∷◌, ◌++◌, refl, sym, ap, ap₂, ◌∙◌, subst, arith, ne_eqb}
+use Rattle.std.proofs.Common.{◌≡◌, ℕ, ◌+◌, ◌<◌, ◌≤◌, List, [], ◌∷◌, ◌++◌, refl, sym, ap, ◌∙◌, subst, arith, ne_eqb}
 use Rattle.std.specs.Prelude.{nat_eq, None}
 use mathlib.Core.Logic.{dite}
 use native.Mathlib.Decide.{ℕ_discrete}
@@ -9,16 +9,16 @@ use Rattle.lt_seq.specs.Table.{TreeState, tree_at}
 use Rattle.lt_forest.specs.Counts.{one_if, times}
 use Rattle.lt_forest.specs.Bounds.{Gap}
 use Rattle.lt_forest.specs.Trees.{Tree, leaf, node, Nodes, LeadsTo, in_order, HasGap}
-use Rattle.lt_forest.specs.Paths.{plug, front, back, last_link}
+use Rattle.lt_forest.specs.Paths.{front, back, last_link}
 use Rattle.lt_forest.specs.Cuts.{Cut, bare}
-use Rattle.lt_forest.specs.Forest.{Forest, Growth, search_tree, chain, rows_at, IsChain, IsRun, Represents, stands, IsForest, GapIn, IsPlaced}
+use Rattle.lt_forest.specs.Forest.{Forest, Growth, search_tree, chain, rows_at, IsChain, IsRun, Represents, IsForest, GapIn, IsPlaced}
 use Rattle.lt_forest.specs.Plans.{Top, IsPart}
 use Rattle.lt_forest.specs.Links.{Slot, left_of, right_of, row_with, link_in, IsLinkOf, Leads, by_link, and_on}
 use Rattle.lt_forest.proofs.BoundLaws.{greater_same, less_same}
-use Rattle.lt_forest.proofs.TreeLaws.{FoundAt, found, inner_leads, in_order-plug}
+use Rattle.lt_forest.proofs.TreeLaws.{found, inner_leads, in_order-plug}
 use Rattle.lt_forest.proofs.SameRows.{times-++, one_here, one_equal}
-use Rattle.lt_forest.proofs.Chains.{total_has, BeginsWith, cut_chain}
-use Rattle.lt_forest.proofs.ForestLaws.{at_most, one_place, TreeAt, ChainAt, as_chain}
+use Rattle.lt_forest.proofs.Chains.{cut_chain}
+use Rattle.lt_forest.proofs.ForestLaws.{at_most, one_place, as_chain}
 use Rattle.lt_forest.proofs.PartLaws.{known, part_stands}
 use Rattle.lt_forest.proofs.GapLaws.{gap_there, is_has, has_stands}
 
@@ -167,7 +167,8 @@ chain_apart c link rows q leads one way =
 
 -- over a forest
 
-module _ {trees rows : ℕ} {c : Nodes} {mode : ℕ → Mode} {state : List TreeState} {f : Forest} (forest : IsForest trees rows c mode state f) where
+module _ {trees rows : ℕ} {c : Nodes} {mode : ℕ → Mode} {state : List TreeState} {f : Forest}
+    (forest : IsForest trees rows c mode state f) where
   -- no row of a tree leads back to itself, and none of the pool
   pub none_back : (t q : ℕ) → t < trees → Leads c (IsLinkOf (f.tree t)) q q → ⊥
   none_back t q lt way = by_growth (f.tree t) (mode t) (forest.grown t lt) (let m = one_place forest t lt q in omega arith) way
@@ -217,4 +218,4 @@ pub part_links : {trees rows t : ℕ} {c : Nodes} {mode : ℕ → Mode} {state :
 part_links {t = t} {f = f} part q some =
     let there : 0 < times q (in_order (known part).tree) =
     subst (λ (g : Growth). 0 < times q (rows_at g)) (known part).is (part_stands part q some) in
-    (subst (λ (g : Growth). IsLinkOf g (left_of q)) (sym (known part).is) there, subst (λ (g : Growth). IsLinkOf g (right_of q)) (sym (known part).is) there)
+    subst (λ (g : Growth). IsLinkOf g (left_of q) × IsLinkOf g (right_of q)) (sym (known part).is) (there, there)

@@ -1,27 +1,22 @@
 -- A part laid anew keeps the forest, with its state changed as the part's pairs are.
-use Rattle.std.proofs.Common.{◌≡◌, ◌⊎◌, inl, inr, ℕ, zero, suc, ◌+◌, ◌<◌, ◌≤◌, List, [], ◌∷◌, ◌++◌, map, length, length-append, Bool, false, set, sym, ap, ◌∙◌, subst, arith}
-use Rattle.std.proofs.lemmas.List.{set-get_or}
+use Rattle.std.proofs.Common.{◌≡◌, ◌⊎◌, inl, inr, ℕ, zero, suc, ◌+◌, ◌<◌, List, [], ◌∷◌, ◌++◌, length, length-append, Bool, false, set, sym, ap, ◌∙◌, subst, arith}
 use Rattle.std.specs.Prelude.{None}
 use Rattle.lt_ranges.specs.Interval.{overlap}
 use Rattle.lt_seq.specs.declared.event.Pair.{Pair}
 use Rattle.lt_seq.specs.declared.event.Mode.{Mode}
-use Rattle.lt_seq.specs.declared.event.Mode.TheVariants.{Tree as TreeMode, Buffer}
-use Rattle.lt_seq.specs.declared.event.Deed.{Deed}
-use Rattle.lt_seq.specs.declared.event.Deed.TheVariants.{Ask, Free, Who, Join}
-use Rattle.lt_seq.specs.Table.{Setting, TreeState, fresh, tree_at, tree_after, replied, tree_of}
+use Rattle.lt_seq.specs.declared.event.Mode.TheVariants.{Tree as TreeMode}
+use Rattle.lt_seq.specs.Table.{TreeState, tree_at}
 use Rattle.lt_forest.specs.Counts.{times}
 use Rattle.lt_forest.specs.Bounds.{Gap, IsInside}
 use Rattle.lt_forest.specs.Changes.{Has, Change}
 use Rattle.lt_forest.specs.Trees.{Tree, leaf, node, Nodes, LeadsTo, in_order, pairs_in, HasGap}
 use Rattle.lt_forest.specs.Paths.{plug, front, back, lower, upper, last_link}
 use Rattle.lt_forest.specs.Cuts.{Cut, end, held, Shows, fill, bare, links}
-use Rattle.lt_forest.specs.Forest.{Forest, Growth, search_tree, rows_at, IsTree, IsChain, Represents, GapIn, KeepsModes}
-use Rattle.lt_forest.specs.Plans.{Top, from_row, top_link, IsPart, IsClosedFor, Lays, range_of, shown_state, ShowsDeed, IsCovered, same_pairs, in_range, Relaid}
+use Rattle.lt_forest.specs.Forest.{Forest, Growth, search_tree, rows_at, IsTree, IsChain, GapIn, KeepsModes}
+use Rattle.lt_forest.specs.Plans.{Top, from_row, top_link, IsPart, Lays, IsCovered, same_pairs, in_range, Relaid}
 use Rattle.lt_forest.proofs.PairLists.{not_over}
 use Rattle.lt_forest.proofs.SameRows.{times-++, one_here, one_equal, AgreeOn, on_path}
 use Rattle.lt_forest.proofs.EndLaws.{same_links}
-use Rattle.lt_forest.proofs.PairChanges.{NoPair, drops_none, no_change}
-use Rattle.lt_forest.proofs.DeedChanges.{at_score, DeedChange, deed_changes}
 use Rattle.lt_forest.proofs.HangLaws.{hung, hung_pairs, cut_gap}
 use Rattle.lt_forest.proofs.Growing.{grow, height, AllGrow, links_grow, all_grow, fill_leads}
 use Rattle.lt_forest.proofs.TreeParts.{beside, beside_pairs, PartChange, shown_inside, hung_apart, beside_apart, gaps_stay, new_pairs, new_times, new_length, place_gap}
@@ -29,7 +24,7 @@ use Rattle.lt_forest.proofs.Chains.{BeginsWith, cut_chain, join_chain, on_chain}
 use Rattle.lt_forest.proofs.ForestLaws.{tree_represents, one_place, Moves, off, put_here, Regrows, regrown, regrown_forest, others_placed}
 use Rattle.lt_forest.proofs.StateLaws.{used_moves}
 use Rattle.lt_forest.proofs.GapLaws.{gap_in_stands}
-use Rattle.lt_forest.proofs.PartLaws.{known, at, hanging, filled, whole_is, placed, closed_at, rows_are, whole_pairs, part_lawful, part_fewer, part_finds}
+use Rattle.lt_forest.proofs.PartLaws.{known, at, hanging, filled, whole_is, placed, closed_at, rows_are, whole_pairs}
 
 module _ {trees rows t : ℕ} {c d : Nodes} {mode : ℕ → Mode} {state : List TreeState} {f : Forest} {top : Top} {cut new : Cut}
     {taken given : List ℕ} (part : IsPart trees rows c mode state f t top cut) (lays : Lays trees t top c d cut new taken given) where
@@ -141,7 +136,8 @@ pub record Remakes (c d : Nodes) (mode mode' : ℕ → Mode) (t : ℕ) (old : Li
   pub shown : Change added dropped (pairs_in c (bare cut)) (pairs_in d (bare new))
   pub whole : Change added dropped old after.pairs
 
-module _ {trees rows t : ℕ} {c d : Nodes} {mode mode' : ℕ → Mode} {state : List TreeState} {f : Forest} {top : Top} {cut new : Cut}
+module _ {trees rows t : ℕ} {c d : Nodes} {mode mode' : ℕ → Mode} {state : List TreeState} {f : Forest} {top : Top}
+    {cut new : Cut}
     {taken given : List ℕ} {after : TreeState} {added : Pair → Type 0} {dropped : Pair → Bool}
     (part : IsPart trees rows c mode state f t top cut) (lays : Lays trees t top c d cut new taken given)
     (remakes : Remakes c d mode mode' t (tree_at state t).pairs after top cut new added dropped) where

@@ -1,5 +1,5 @@
 -- A row and one of its children turned.
-use Rattle.std.proofs.Common.{◌≡◌, ℕ, ◌+◌, [], ◌∷◌, refl}
+use Rattle.std.proofs.Common.{◌≡◌, ◌+◌, [], ◌∷◌, refl}
 use Rattle.lt_forest.specs.declared.part.Placed.{Placed}
 use Rattle.lt_forest.specs.Cuts.{end, held}
 use Rattle.lt_forest.specs.Layouts.{Turns}

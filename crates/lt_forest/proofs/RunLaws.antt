@@ -1,5 +1,5 @@
 -- The bounds that hangs keep where a free leaves rows out, and where a grant merges a run of rows to one.
-use Rattle.std.proofs.Common.{◌≡◌, ◌⊎◌, inl, inr, List, [], ◌∷◌, ◌++◌, Bool, true, false, not, if◌then◌else◌, refl, sym, ap, ◌∙◌, subst, arith}
+use Rattle.std.proofs.Common.{◌≡◌, ◌⊎◌, inl, inr, List, [], ◌∷◌, ◌++◌, Bool, true, false, if◌then◌else◌, refl, sym, ap, ◌∙◌, subst}
 use Rattle.std.specs.Prelude.{Some, None}
 use Rattle.lt_ranges.specs.declared.key.Key.{Key}
 use Rattle.lt_ranges.specs.Key.{key_le}
@@ -24,7 +24,8 @@ next_one : (keep : Bool) (r : PartRow) (js : List Item) → NoLess (next_row js 
 next_one true r js h = less_same (Some r.range.left)
 next_one false r js h = h
 
-next_sift : (keep : PartRow → Bool) (x : Bound) (is : List Item) → Ascends x is → NoLess (next_row (sift keep is) None) (next_row is None)
+next_sift : (keep : PartRow → Bool) (x : Bound) (is : List Item) → Ascends x is
+    → NoLess (next_row (sift keep is) None) (next_row is None)
 next_sift keep x [] o = tt
 next_sift keep x (row r ∷ is) o = next_one (keep r) r (sift keep is)
     (less_trans (next_row (sift keep is) None) (next_row is None) (Some r.range.left) (next_sift keep (Some r.range.right) is o.2)
@@ -47,7 +48,8 @@ sift_at keep x u (row r ∷ is) o lo =
     (sift_at keep right u is o.2 (greater_trans u x right lo (greater_trans x left right (above_is x r.range.left o.0) o.1)))
 sift_at keep x u (hang l ∷ is) o lo = (refl, lo, next_sift keep x is o, sift_at keep x u is o lo)
 
-pub sift_looser : (keep : PartRow → Bool) (is : List Item) → Ascends None is → Looser (between is None None) (between (sift keep is) None None)
+pub sift_looser : (keep : PartRow → Bool) (is : List Item) → Ascends None is
+    → Looser (between is None None) (between (sift keep is) None None)
 sift_looser keep is o = sift_at keep None None is o tt
 
 -- a run of rows merged to one
@@ -82,7 +84,8 @@ not_ahead : (range : Interval) (y : Bound) → IsInterval range → IsBelow y ra
 not_ahead range None o below b = b
 not_ahead range (Some k) o below b = not_both (key_le k range.right) below (le_trans k range.left range.right b o)
 
-module _ {range : Interval} {ahead behind : List Item} {run : List PartRow} {one : PartRow} (merge : MayMerge range ahead run behind one)
+module _ {range : Interval} {ahead behind : List Item} {run : List PartRow} {one : PartRow}
+    (merge : MayMerge range ahead run behind one)
     (aside : AllAside range (between (ahead ++ (rows_only run ++ behind)) None None)) where
   aside_ahead : AllAside range (between ahead None (first_end run (next_row behind None)))
   aside_ahead =

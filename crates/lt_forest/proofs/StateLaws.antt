@@ -1,5 +1,5 @@
 -- What a forest tells of its table: how many rows are in use, and what whole trees and chains show.
-use Rattle.std.proofs.Common.{◌≡◌, inl, inr, ℕ, zero, suc, ◌+◌, ◌<◌, List, [], ◌∷◌, length, get_or, refl, sym, ap, ◌∙◌, subst, arith}
+use Rattle.std.proofs.Common.{◌≡◌, ℕ, zero, suc, ◌+◌, ◌<◌, List, [], ◌∷◌, length, get_or, refl, sym, ap, ◌∙◌, subst, arith}
 use Rattle.std.specs.Prelude.{sum_by, None}
 use Rattle.std.proofs.lemmas.List.Sums.{sum_by-cons}
 use Rattle.lt_ranges.specs.Interval.{whole}
@@ -13,12 +13,12 @@ use Rattle.lt_forest.specs.Counts.{total}
 use Rattle.lt_forest.specs.Trees.{Tree, leaf, node, Nodes, pair_of, LeadsTo, in_order, pairs_in, IsOrdered}
 use Rattle.lt_forest.specs.Cuts.{Cut, bare}
 use Rattle.lt_forest.specs.Forest.{Forest, Growth, search_tree, chain, rows_at, IsTree, IsChain, AllOf, folded, Represents, IsForest}
-use Rattle.lt_forest.specs.Plans.{Top, from_anchor, IsPart, IsClosedFor}
+use Rattle.lt_forest.specs.Plans.{from_anchor, IsPart, IsClosedFor}
 use Rattle.lt_forest.proofs.BoundLaws.{over_whole}
 use Rattle.lt_forest.proofs.PairLists.{one_list}
 use Rattle.lt_forest.proofs.TreeOrders.{lawful_ordered}
 use Rattle.lt_forest.proofs.Chains.{total_same, chain_one}
-use Rattle.lt_forest.proofs.ForestLaws.{TreeAt, as_tree, ChainAt, as_chain}
+use Rattle.lt_forest.proofs.ForestLaws.{as_tree, as_chain}
 use Rattle.lt_forest.proofs.PartLaws.{map_long, part_lawful, part_has, part_has_all}
 
 total_front : (f : ℕ → ℕ) (n : ℕ) → total f (suc n) ≡ f 0 + total (λ i. f (suc i)) n
@@ -43,7 +43,8 @@ grown_rows c link (search_tree t) pairs (Buffer txn count) h = absurd h
 grown_rows c link (chain rows) pairs (TreeMode s) h = absurd h
 grown_rows c link (chain rows) pairs (Buffer txn count) h = h.3
 
-module _ {trees rows : ℕ} {c : Nodes} {mode : ℕ → Mode} {state : List TreeState} {f : Forest} (forest : IsForest trees rows c mode state f) where
+module _ {trees rows : ℕ} {c : Nodes} {mode : ℕ → Mode} {state : List TreeState} {f : Forest}
+    (forest : IsForest trees rows c mode state f) where
   -- used rows, vacant ones and anchors are all the rows
   pub rows_add_up : used state + length f.pool + trees + 1 ≡ rows
   rows_add_up =
@@ -77,7 +78,8 @@ module _ {trees rows : ℕ} {c : Nodes} {mode : ℕ → Mode} {state : List Tree
 
   -- a search tree is in order
   pub in_order_tree : AllSound state → (t : ℕ) (x : Tree) → t < trees → f.tree t ≡ search_tree x → IsOrdered c x None None
-  in_order_tree sound t x lt is = by_mode (mode t) (subst (λ (g : Growth). Represents c (c t).left g (tree_at state t).pairs (mode t)) is (forest.grown t lt))
+  in_order_tree sound t x lt is =
+      by_mode (mode t) (subst (λ (g : Growth). Represents c (c t).left g (tree_at state t).pairs (mode t)) is (forest.grown t lt))
     where
       by_mode : (m : Mode) → Represents c (c t).left (search_tree x) (tree_at state t).pairs m → IsOrdered c x None None
       by_mode (TreeMode score) grown =

@@ -1,5 +1,5 @@
 -- Laws of search trees: their order and gaps, and a subtree put in another's place.
-use Rattle.std.proofs.Common.{◌≡◌, ◌⊎◌, inl, inr, ℕ, ◌+◌, List, [], ◌∷◌, ◌++◌, refl, sym, ap, ◌∙◌, subst, append_assoc, append-nil}
+use Rattle.std.proofs.Common.{◌≡◌, ◌⊎◌, inl, inr, ℕ, ◌+◌, List, ◌∷◌, ◌++◌, refl, sym, ap, ◌∙◌, subst, append_assoc, append-nil}
 use Rattle.std.specs.Prelude.{Some}
 use Rattle.lt_ranges.specs.Interval.{IsInterval}
 use Rattle.lt_forest.specs.Bounds.{Bound, Gap, IsAbove, IsBelow, NoGreater, NoLess, Within}

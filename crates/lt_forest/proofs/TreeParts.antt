@@ -113,7 +113,8 @@ module _ {c : Nodes} {H : ℕ → Tree} {w : Path} {cut : Cut} (part : IsPartAt 
 
   -- where the part is closed for the range
 
-  pub beside_apart : (range : Interval) → IsClosedAt c w cut range → (p : Pair) → Has p (beside_pairs c w) → overlap p.range range ≡ false
+  pub beside_apart : (range : Interval) → IsClosedAt c w cut range → (p : Pair) → Has p (beside_pairs c w)
+      → overlap p.range range ≡ false
   beside_apart range closed p h =
       let clear = beside_clear c w (fill H cut) None None range ordered closed.inside in
       elim (has_either p (map (pair_of c) (front w)) (map (pair_of c) (back w)) (subst (Has p) (map_app (pair_of c) (front w) (back w)) h)) [
@@ -211,7 +212,8 @@ module _ {c d : Nodes} {H : ℕ → Tree} {w : Path} {cut new : Cut} {added : Pa
   pub new_pairs : (target : List Pair) → Change added dropped (pairs_in c (plug w (fill H cut))) target
       → pairs_in d (plug w (fill H new)) ≡ target
   new_pairs target whole =
-      one_list (pairs_in d (plug w (fill H new))) target (ordered_lawful d (plug w (fill H new)) None None new_ordered) whole.lawful to_target from_target
+      one_list (pairs_in d (plug w (fill H new))) target (ordered_lawful d (plug w (fill H new)) None None new_ordered)
+      whole.lawful to_target from_target
     where
       to_target : (p : Pair) → Has p (pairs_in d (plug w (fill H new))) → Has p target
       to_target p h = elim (plug_has d w (fill H new) p h) [

@@ -1,5 +1,5 @@
 -- What a pass holds and plans is true of the forest: plans for buffers.
-use Rattle.std.proofs.Common.{◌≡◌, ℕ, ◌+◌, ◌<◌, List, [], ◌∷◌, ◌++◌, length, Bool, true, set, refl, sym, ap, ◌∙◌, subst, arith}
+use Rattle.std.proofs.Common.{◌≡◌, ℕ, ◌<◌, List, [], ◌∷◌, ◌++◌, length, Bool, true, sym, ap, ◌∙◌, subst, arith}
 use Rattle.lt_ranges.specs.Interval.{Interval}
 use Rattle.lt_seq.specs.declared.event.Pair.{Pair}
 use Rattle.lt_seq.specs.declared.event.Mode.{Mode}
@@ -7,12 +7,12 @@ use Rattle.lt_seq.specs.declared.event.Mode.TheVariants.{Buffer}
 use Rattle.lt_seq.specs.declared.event.Reply.TheVariants.{Buffered}
 use Rattle.lt_seq.specs.declared.event.Deed.{Deed}
 use Rattle.lt_seq.specs.declared.event.Deed.TheVariants.{Ask, Free}
-use Rattle.lt_seq.specs.Table.{Setting, TreeState, tree_at, tree_after, replied, tree_of, is_whole}
-use Rattle.lt_forest.specs.Counts.{times}
-use Rattle.lt_forest.specs.Trees.{Node, Nodes, in_order, pairs_in}
+use Rattle.lt_seq.specs.Table.{Setting, TreeState, tree_after, replied, tree_of, is_whole}
+use Rattle.lt_forest.specs.Plans.{after_deed, IsReplied}
+use Rattle.lt_forest.specs.Trees.{Node, Nodes, in_order}
 use Rattle.lt_forest.specs.Cuts.{Cut, Shows, bare}
-use Rattle.lt_forest.specs.Forest.{Forest, IsChain, folded, IsForest, ChangesOnly, KeepsModes, Becomes}
-use Rattle.lt_forest.specs.Buffers.{PutsFirst, Begins, Appends, buffered_state, Ends, Drops}
+use Rattle.lt_forest.specs.Forest.{NoRow, Forest, IsChain, folded, IsForest, ChangesOnly, KeepsModes, Becomes}
+use Rattle.lt_forest.specs.Buffers.{whole_free, PutsFirst, Begins, Appends, Ends, Drops}
 use Rattle.lt_forest.specs.Views.{Agrees, IsView, AllHeld, PlansThese, PlanEnds, PlanDrops}
 use Rattle.lt_forest.proofs.SameRows.{times-++, one_here, AgreeOn, on_right, on_pairs}
 use Rattle.lt_forest.proofs.Chains.{on_chain, on_folded}
@@ -24,7 +24,8 @@ use Rattle.lt_forest.proofs.ViewLaws.{on_cut, held_same, planned_only, true_pool
 abbrev left : Node → ℕ
 left n = n.left
 
-module _ {has : ℕ → Type 0} {planned : List ℕ} {trees t q txn : ℕ} {range : Interval} {v v' c d : Nodes} (view : IsView has planned v v' c d)
+module _ {has : ℕ → Type 0} {planned : List ℕ} {trees t q txn : ℕ} {range : Interval} {v v' c d : Nodes}
+    (view : IsView has planned v v' c d)
     (these : PlansThese has planned (t ∷ trees ∷ q ∷ [])) (puts : PutsFirst trees t q txn range v v') where
   at_anchor : has t
   at_anchor = these.held t (let o = one_here t in omega arith)
@@ -48,7 +49,8 @@ module _ {has : ℕ → Type 0} {planned : List ℕ} {trees t q txn : ℕ} {rang
   true_only : ChangesOnly (t ∷ trees ∷ q ∷ []) c d
   true_only = planned_only (t ∷ trees ∷ q ∷ []) planned c d view.stays these.only
 
-module _ {has : ℕ → Type 0} {planned : List ℕ} {trees rows t q txn : ℕ} {range : Interval} {v v' c d : Nodes} {mode mode' : ℕ → Mode}
+module _ {has : ℕ → Type 0} {planned : List ℕ} {trees rows t q txn : ℕ} {range : Interval} {v v' c d : Nodes}
+    {mode mode' : ℕ → Mode}
     {state : List TreeState} {f : Forest} {setting : Setting} (forest : IsForest trees rows c mode state f) (tree : t < trees)
     (view : IsView has planned v v' c d) (these : PlansThese has planned (t ∷ trees ∷ q ∷ []))
     (begins : Begins setting trees t q txn range v v' (mode t) (mode' t)) (other_modes : KeepsModes t mode mode') where
@@ -61,13 +63,14 @@ module _ {has : ℕ → Type 0} {planned : List ℕ} {trees rows t q txn : ℕ} 
     puts = true_puts view these begins.puts;
   }
 
-  pub view_begun : Becomes trees rows c d mode mode' state (set state t (tree_after setting txn (Ask t range Buffered) (tree_at state t))) f (λ q. ⊥) 0 1
+  pub view_begun : Becomes trees rows c d mode mode' state (after_deed setting txn (Ask t range Buffered) state) f NoRow 0 1
   view_begun = begun forest tree true_begins (true_only view these begins.puts) other_modes
 
-  pub view_begin_replies : replied setting txn (Ask t range Buffered) (tree_at state t) ≡ Ask t range Buffered
+  pub view_begin_replies : IsReplied setting txn (Ask t range Buffered) state
   view_begin_replies = begin_replies forest tree true_begins (true_only view these begins.puts) other_modes
 
-module _ {has : ℕ → Type 0} {planned : List ℕ} {trees rows t q txn count : ℕ} {range : Interval} {v v' c d : Nodes} {mode mode' : ℕ → Mode}
+module _ {has : ℕ → Type 0} {planned : List ℕ} {trees rows t q txn count : ℕ} {range : Interval} {v v' c d : Nodes}
+    {mode mode' : ℕ → Mode}
     {state : List TreeState} {f : Forest} {setting : Setting} (forest : IsForest trees rows c mode state f) (tree : t < trees)
     (view : IsView has planned v v' c d) (these : PlansThese has planned (t ∷ trees ∷ q ∷ []))
     (appends : Appends setting trees t q txn count range v v' (mode t) (mode' t)) (other_modes : KeepsModes t mode mode') where
@@ -79,15 +82,16 @@ module _ {has : ℕ → Type 0} {planned : List ℕ} {trees rows t q txn count :
     puts = true_puts view these appends.puts;
   }
 
-  pub view_appended : Becomes trees rows c d mode mode' state (set state t (tree_after setting txn (Ask t range Buffered) (tree_at state t))) f (λ q. ⊥) 0 1
+  pub view_appended : Becomes trees rows c d mode mode' state (after_deed setting txn (Ask t range Buffered) state) f NoRow 0 1
   view_appended = appended forest tree true_appends (true_only view these appends.puts) other_modes
 
-  pub view_append_replies : replied setting txn (Ask t range Buffered) (tree_at state t) ≡ Ask t range Buffered
+  pub view_append_replies : IsReplied setting txn (Ask t range Buffered) state
   view_append_replies = append_replies forest tree true_appends (true_only view these appends.puts) other_modes
 
 -- a chain that is held with its anchor
 
-module _ {has : ℕ → Type 0} {v c : Nodes} (t : ℕ) (rows : List ℕ) (agrees : Agrees has v c) (chain_held : AllHeld has (t ∷ rows)) where
+module _ {has : ℕ → Type 0} {v c : Nodes} (t : ℕ) (rows : List ℕ) (agrees : Agrees has v c)
+    (chain_held : AllHeld has (t ∷ rows)) where
   pub chain_same : AgreeOn v c rows
   chain_same = on_right v c (t ∷ []) rows (held_same has v c (t ∷ rows) agrees chain_held)
 
@@ -99,10 +103,12 @@ module _ {has : ℕ → Type 0} {v c : Nodes} (t : ℕ) (rows : List ℕ) (agree
 
 -- a buffer ends
 
-module _ {has : ℕ → Type 0} {planned : List ℕ} {trees rows txn owner count : ℕ} {v v' c d : Nodes} {mode mode' : ℕ → Mode} {state : List TreeState}
+module _ {has : ℕ → Type 0} {planned : List ℕ} {trees rows txn owner count : ℕ} {v v' c d : Nodes} {mode mode' : ℕ → Mode}
+    {state : List TreeState}
     {f : Forest} {setting : Setting} {deed : Deed} {olds : List ℕ} {new : Cut} {taken given : List ℕ}
     (forest : IsForest trees rows c mode state f) (tree : tree_of deed < trees) (view : IsView has planned v v' c d)
-    (plan : PlanEnds has planned setting trees txn owner count deed (tree_of deed) v v' (mode (tree_of deed)) (mode' (tree_of deed)) olds new taken given)
+    (plan : PlanEnds has planned setting trees txn owner count deed (tree_of deed) v v' (mode (tree_of deed))
+    (mode' (tree_of deed)) olds new taken given)
     (other_modes : KeepsModes (tree_of deed) mode mode') where
   olds_same : folded owner v olds ≡ folded owner c olds
   olds_same = on_folded v c owner olds (chain_same (tree_of deed) olds view.before plan.chain_held)
@@ -134,11 +140,11 @@ module _ {has : ℕ → Type 0} {planned : List ℕ} {trees rows txn owner count
   ends_only : ChangesOnly (tree_of deed ∷ trees ∷ olds ++ taken) c d
   ends_only = planned_only (tree_of deed ∷ trees ∷ olds ++ taken) planned c d view.stays plan.only
 
-  pub view_ended : Becomes trees rows c d mode mode' state (set state (tree_of deed) (tree_after setting txn deed (tree_at state (tree_of deed))))
-      f (λ q. ⊥) (length olds) (length (in_order (bare new)))
+  pub view_ended : Becomes trees rows c d mode mode' state (after_deed setting txn deed state)
+      f NoRow (length olds) (length (in_order (bare new)))
   view_ended = ended forest tree true_ends (true_pool view plan.pool) ends_only other_modes
 
-  pub view_end_replies : replied setting txn deed (tree_at state (tree_of deed)) ≡ deed
+  pub view_end_replies : IsReplied setting txn deed state
   view_end_replies = end_replies forest tree true_ends (true_pool view plan.pool) ends_only other_modes
 
 -- a buffer is dropped whole
@@ -180,12 +186,11 @@ module _ {has : ℕ → Type 0} {planned : List ℕ} {trees rows t owner count l
 
   module _ (setting : Setting) (range : Interval) (first : Bool) (whole : is_whole range ≡ true) where
     pub view_dropped : Becomes trees rows c d mode mode' state
-        (set state t (tree_after setting owner (Free t range first (length (folded owner v (front ++ last ∷ [])))) (tree_at state t)))
-        f (λ q. ⊥) (length (front ++ last ∷ [])) 0
+        (after_deed setting owner (whole_free t range first owner v (front ++ last ∷ [])) state)
+        f NoRow (length (front ++ last ∷ [])) 0
     view_dropped = dropped forest tree true_drops drops_only other_modes setting range first whole
 
-    pub view_drop_replies : replied setting owner (Free t range first (length (folded owner v (front ++ last ∷ [])))) (tree_at state t)
-        ≡ Free t range first (length (folded owner v (front ++ last ∷ [])))
+    pub view_drop_replies : IsReplied setting owner (whole_free t range first owner v (front ++ last ∷ [])) state
     view_drop_replies =
         drop_replies forest tree true_drops drops_only other_modes setting range first whole
         ∙ ap (λ (l : List Pair). Free t range first (length l)) (sym pairs_same)

@@ -1,5 +1,5 @@
 -- What a pass holds and plans is true of the forest: parts, plans for events, and changes of layout.
-use Rattle.std.proofs.Common.{◌≡◌, ℕ, ◌+◌, ◌<◌, List, [], ◌∷◌, ◌++◌, set, refl, sym, ap, ◌∙◌, subst, arith}
+use Rattle.std.proofs.Common.{◌≡◌, ℕ, ◌+◌, ◌<◌, List, [], ◌∷◌, ◌++◌, refl, sym, ap, ◌∙◌, subst}
 use Rattle.std.specs.Prelude.{None}
 use Rattle.lt_ranges.specs.Interval.{Interval}
 use Rattle.lt_seq.specs.declared.event.Pair.{Pair}
@@ -7,15 +7,15 @@ use Rattle.lt_seq.specs.declared.event.Mode.{Mode}
 use Rattle.lt_seq.specs.declared.event.Mode.TheVariants.{Tree as TreeMode, Buffer}
 use Rattle.lt_seq.specs.declared.event.Deed.{Deed}
 use Rattle.lt_seq.specs.Sound.{AllSound}
-use Rattle.lt_seq.specs.Table.{Setting, TreeState, tree_at, tree_after, replied, tree_of}
-use Rattle.lt_forest.specs.Counts.{times}
+use Rattle.lt_seq.specs.Table.{Setting, TreeState, tree_after, replied, tree_of}
 use Rattle.lt_forest.specs.Trees.{Node, Nodes, in_order, pairs_in}
 use Rattle.lt_forest.specs.Cuts.{Cut, end, held, Shows, bare, End, ends, Looser, AllAside}
 use Rattle.lt_forest.specs.Forest.{Forest, IsTree, IsRun, IsForest, ChangesOnly, KeepsModes}
-use Rattle.lt_forest.specs.Plans.{Top, from_anchor, from_row, top_link, IsSeen, KeepsLink, IsPart, IsClosedFor, MovesPool, Lays, range_of, ShowsDeed, Relaid}
+use Rattle.lt_forest.specs.Plans.{after_deed, IsReplied, Top, from_anchor, from_row, top_link, IsSeen, KeepsLink, IsPart, IsClosedFor, MovesPool, Lays, range_of, ShowsDeed, Relaid}
 use Rattle.lt_forest.specs.Views.{Agrees, IsView, AllHeld, PlansOnly, TopHeld, TopStays, HoldsPart, PoolPlan, no_pool, from_pool, PlanLays, PlanShows}
 use Rattle.lt_forest.proofs.SameRows.{AgreeOn, on_left, on_right, on_here, on_pairs}
 use Rattle.lt_forest.proofs.EndLaws.{on_ends}
+use Rattle.lt_forest.proofs.OrderLaws.{looser_same}
 use Rattle.lt_forest.proofs.Chains.{on_run}
 use Rattle.lt_forest.proofs.GapLaws.{placed_tree}
 use Rattle.lt_forest.proofs.EventLaws.{score_of, deed_replies, event_relaid, layout_relaid}
@@ -43,7 +43,8 @@ top_same has v c t (from_row h g) agrees k = refl
 
 -- parts
 
-module _ {has : ℕ → Type 0} {t : ℕ} {top : Top} {v c : Nodes} {cut : Cut} (agrees : Agrees has v c) (part : HoldsPart has t top v cut) where
+module _ {has : ℕ → Type 0} {t : ℕ} {top : Top} {v c : Nodes} {cut : Cut} (agrees : Agrees has v c)
+    (part : HoldsPart has t top v cut) where
   cut_same : AgreeOn v c (in_order (bare cut))
   cut_same = held_same has v c (in_order (bare cut)) agrees part.rows
 
@@ -73,11 +74,13 @@ module _ {has : ℕ → Type 0} {t : ℕ} {top : Top} {v c : Nodes} {cut : Cut} 
 
 -- plans
 
-top_stays : (planned : List ℕ) (c d : Nodes) (t : ℕ) (top : Top) → ChangesOnly planned c d → TopStays planned t top → KeepsLink top (c t) (d t)
+top_stays : (planned : List ℕ) (c d : Nodes) (t : ℕ) (top : Top) → ChangesOnly planned c d → TopStays planned t top
+    → KeepsLink top (c t) (d t)
 top_stays planned c d t from_anchor stays h = tt
 top_stays planned c d t (from_row h g) stays k = ap (λ (n : Node). n.left) (stays t k)
 
-module _ {has : ℕ → Type 0} {planned : List ℕ} {trees : ℕ} {v v' c d : Nodes} {taken given : List ℕ} (view : IsView has planned v v' c d) where
+module _ {has : ℕ → Type 0} {planned : List ℕ} {trees : ℕ} {v v' c d : Nodes} {taken given : List ℕ}
+    (view : IsView has planned v v' c d) where
   pub true_pool : PoolPlan has planned trees v v' taken given → MovesPool trees c d taken given
   true_pool (no_pool none_taken none_given unplanned) = record {
     rest = (c trees).left;
@@ -113,7 +116,8 @@ module _ {has : ℕ → Type 0} {planned : List ℕ} {trees t : ℕ} {top : Top}
   pub new_pairs : pairs_in v' (bare new) ≡ pairs_in d (bare new)
   new_pairs = on_pairs v' d (in_order (bare new)) new_same
 
-  pub true_deed : {setting : Setting} {txn : ℕ} {deed : Deed} {before after : Mode} → ShowsDeed setting txn deed v v' cut new before after
+  pub true_deed : {setting : Setting} {txn : ℕ} {deed : Deed} {before after : Mode}
+      → ShowsDeed setting txn deed v v' cut new before after
       → ShowsDeed setting txn deed c d cut new before after
   true_deed {setting} {txn} {deed} {before} {after} shows =
       let old = true_pairs view.before plan.part in
@@ -127,13 +131,32 @@ module _ {has : ℕ → Type 0} {planned : List ℕ} {trees t : ℕ} {top : Top}
         question = shows.question;
       }
 
+-- a plan that changes nothing
+pub unchanged : {has : ℕ → Type 0} {t : ℕ} {top : Top} {v : Nodes} {cut : Cut} (trees : ℕ) → HoldsPart has t top v cut
+    → PlanLays has [] trees t top v v cut cut [] []
+unchanged {t = t} {top = top} {v = v} {cut = cut} trees part = record {
+  part = part;
+  shows = part.shows;
+  new_held = part.rows;
+  loose = looser_same (ends v cut None None);
+  pool = no_pool refl refl refl;
+  rows = record { each = λ q. refl; all = refl };
+  link = none_planned top;
+  others = λ r none. refl;
+}
+  where
+    none_planned : (at : Top) → TopStays [] t at
+    none_planned from_anchor = tt
+    none_planned (from_row h g) = refl
+
 -- a plan for an event
 
 abbrev score_in : Mode → ℕ
 score_in (TreeMode s) = s
 score_in (Buffer txn count) = 0
 
-module _ {has : ℕ → Type 0} {planned : List ℕ} {trees rows : ℕ} {top : Top} {v v' c d : Nodes} {mode mode' : ℕ → Mode} {state : List TreeState}
+module _ {has : ℕ → Type 0} {planned : List ℕ} {trees rows : ℕ} {top : Top} {v v' c d : Nodes} {mode mode' : ℕ → Mode}
+    {state : List TreeState}
     {f : Forest} {cut new : Cut} {taken given : List ℕ} (setting : Setting) (txn score : ℕ) (deed : Deed)
     (forest : IsForest trees rows c mode state f) (sound : AllSound state) (tree : tree_of deed < trees)
     (seen : IsSeen c (f.tree (tree_of deed)) top) (full : score ≡ 100 → mode (tree_of deed) ≡ TreeMode 100)
@@ -160,16 +183,19 @@ module _ {has : ℕ → Type 0} {planned : List ℕ} {trees rows : ℕ} {top : T
   view_part : IsPart trees rows c mode state f (tree_of deed) top cut
   view_part = true_part view.before plan.part forest sound tree view_deed.was_tree seen
 
-  pub view_relaid : Relaid trees rows c d mode mode' state (set state (tree_of deed) (tree_after setting txn deed (tree_at state (tree_of deed))))
+  pub view_relaid : Relaid trees rows c d mode mode' state (after_deed setting txn deed state)
       f (tree_of deed) top cut new
-  view_relaid = event_relaid view_part (true_lays view plan) (true_closed view.before plan.part closed) (true_deed view plan view_deed) other_modes
+  view_relaid =
+      event_relaid view_part (true_lays view plan) (true_closed view.before plan.part closed) (true_deed view plan view_deed) other_modes
 
-  pub view_replies : replied setting txn deed (tree_at state (tree_of deed)) ≡ deed
-  view_replies = deed_replies view_part (true_lays view plan) (true_closed view.before plan.part closed) (true_deed view plan view_deed) other_modes
+  pub view_replies : IsReplied setting txn deed state
+  view_replies =
+      deed_replies view_part (true_lays view plan) (true_closed view.before plan.part closed) (true_deed view plan view_deed) other_modes
 
 -- a change of layout alone
 
-module _ {has : ℕ → Type 0} {planned : List ℕ} {trees rows t : ℕ} {top : Top} {v v' c d : Nodes} {mode : ℕ → Mode} {state : List TreeState}
+module _ {has : ℕ → Type 0} {planned : List ℕ} {trees rows t : ℕ} {top : Top} {v v' c d : Nodes} {mode : ℕ → Mode}
+    {state : List TreeState}
     {f : Forest} {cut new : Cut} (forest : IsForest trees rows c mode state f) (sound : AllSound state) (tree : t < trees)
     (tree_mode : IsTree (mode t)) (seen : IsSeen c (f.tree t) top) (view : IsView has planned v v' c d)
     (plan : PlanLays has planned trees t top v v' cut new [] []) (same : pairs_in v' (bare new) ≡ pairs_in v (bare cut)) where

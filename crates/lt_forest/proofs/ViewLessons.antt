@@ -1,5 +1,5 @@
 -- What a pass reads off its rows is true of the forest: gaps, links, pairs and chains.
-use Rattle.std.proofs.Common.{◌≡◌, ◌≢◌, ◌⊎◌, ℕ, ◌+◌, ◌<◌, List, ◌∷◌, length, Bool, true, sym, ap, ◌∙◌, subst}
+use Rattle.std.proofs.Common.{◌≡◌, ◌≢◌, ◌⊎◌, ℕ, ◌+◌, ◌<◌, List, ◌∷◌, length, true, sym, ap, ◌∙◌, subst}
 use Rattle.std.specs.Prelude.{None, Some}
 use Rattle.lt_ranges.specs.Interval.{Interval, overlap, whole}
 use Rattle.lt_seq.specs.declared.event.Pair.{Pair}
@@ -21,7 +21,6 @@ use Rattle.lt_forest.proofs.StateLaws.{vacant_there, chain_shows, whole_shows}
 use Rattle.lt_forest.proofs.GapLaws.{top_placed, left_placed, right_placed}
 use Rattle.lt_forest.proofs.LinkLaws.{link_names, links_apart, pool_apart}
 use Rattle.lt_forest.proofs.PathLaws.{none_back}
-use Rattle.lt_forest.proofs.SameRows.{AgreeOn}
 use Rattle.lt_forest.proofs.ViewLaws.{true_part, true_pairs, true_closed}
 use Rattle.lt_forest.proofs.ViewBuffers.{chain_same, true_chain}
 
@@ -86,7 +85,8 @@ module _ {has : ℕ → Type 0} {v c : Nodes} {trees rows : ℕ} {mode : ℕ →
         k.2,
       )
 
-module _ {has : ℕ → Type 0} {v c : Nodes} {trees rows t : ℕ} {mode : ℕ → Mode} {state : List TreeState} {f : Forest} {top : Top} {cut : Cut}
+module _ {has : ℕ → Type 0} {v c : Nodes} {trees rows t : ℕ} {mode : ℕ → Mode} {state : List TreeState} {f : Forest}
+    {top : Top} {cut : Cut}
     (forest : IsForest trees rows c mode state f) (sound : AllSound state) (tree : t < trees) (tree_mode : IsTree (mode t))
     (seen : IsSeen c (f.tree t) top) (agrees : Agrees has v c) (part : HoldsPart has t top v cut) where
   pub read_has : (p : Pair) → Has p (pairs_in v (bare cut)) → Has p (tree_at state t).pairs

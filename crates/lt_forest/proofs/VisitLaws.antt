@@ -12,7 +12,7 @@ use Rattle.lt_forest.specs.Bounds.{Bound}
 use Rattle.lt_forest.specs.Changes.{Has}
 use Rattle.lt_forest.specs.Trees.{Nodes, left_end, right_end, pairs_in, IsOrdered}
 use Rattle.lt_forest.specs.Cuts.{Cut, end, held, bare, End, ends, AllAside}
-use Rattle.lt_forest.specs.Visits.{goes_left, goes_right, IsVisited}
+use Rattle.lt_forest.specs.Visits.{IsVisited}
 use Rattle.lt_forest.specs.Forest.{Forest}
 use Rattle.lt_forest.specs.Plans.{Top, IsInGap, IsPart, IsClosedFor}
 use Rattle.lt_forest.proofs.BoundLaws.{lt_is}

@@ -7,14 +7,14 @@ use Rattle.lt_seq.specs.declared.event.Mode.{Mode}
 use Rattle.lt_seq.specs.declared.event.Mode.TheVariants.{Tree as TreeMode, Buffer}
 use Rattle.lt_seq.specs.declared.event.Reply.TheVariants.{Granted}
 use Rattle.lt_seq.specs.declared.event.Deed.{Deed}
-use Rattle.lt_seq.specs.declared.event.Deed.TheVariants.{Ask, Free}
+use Rattle.lt_seq.specs.declared.event.Deed.TheVariants.{Ask}
 use Rattle.lt_forest.specs.Trees.{Node}
 use Rattle.lt_forest.specs.Cuts.{Cut, end, held}
-use Rattle.lt_forest.specs.Forest.{IsForest, ChangesOnly, KeepsModes}
+use Rattle.lt_forest.specs.Forest.{ChangesOnly, KeepsModes}
 use Rattle.lt_forest.specs.Plans.{MovesPool}
 use Rattle.lt_forest.specs.Buffers.{Begins, Appends, Ends, Drops}
-use Rattle.lt_forest.specs.Openings.{IsOpening, opening_forest}
-use Rattle.lt_forest.specs.WorkedTrees.{at, holds, leads, tree_modes, with_images}
+use Rattle.lt_forest.specs.Openings.{IsOpening}
+use Rattle.lt_forest.specs.WorkedTrees.{at, holds, leads, tree_modes}
 use Rattle.lt_forest.specs.WorkedBuffer.{with_buffer, modes_of, none, one, two, dropped, ended, WorkedBuffer}
 use Rattle.lt_forest.proofs.Openings.{opens}
 use Rattle.lt_forest.proofs.BufferLaws as laws

@@ -1,5 +1,5 @@
 -- The worked plans.
-use Rattle.std.proofs.Common.{◌≡◌, inl, inr, ℕ, zero, suc, ◌+◌, ◌<◌, List, [], ◌∷◌, ◌++◌, map, Bool, true, refl, sym, ap, subst, arith, lit<, ne_eqb, eq-eqb}
+use Rattle.std.proofs.Common.{◌≡◌, inl, inr, ℕ, zero, suc, ◌<◌, List, [], ◌∷◌, map, Bool, true, refl, sym, ap, subst, arith, lit<, ne_eqb, eq-eqb}
 use Rattle.std.specs.Prelude.{codes, nat_eq, Some, None, if◌then◌else◌}
 use mathlib.Core.Logic.{dite}
 use native.Mathlib.Decide.{ℕ_discrete}
@@ -12,14 +12,14 @@ use Rattle.lt_seq.specs.declared.event.Deed.TheVariants.{Ask, Free, Who, Join}
 use Rattle.lt_seq.specs.declared.event.Mode.TheVariants.{Tree as TreeMode}
 use Rattle.lt_seq.specs.Sound.{AllSound}
 use Rattle.lt_seq.specs.History.{after, IsLegal}
-use Rattle.lt_seq.specs.Table.{TreeState, tree_at, tree_after, replied, tree_of}
+use Rattle.lt_seq.specs.Table.{tree_at}
 use Rattle.lt_seq.proofs.LawfulLaws.{sound_history}
 use Rattle.lt_forest.specs.Counts.{one_if, times}
-use Rattle.lt_forest.specs.Trees.{Node, Nodes, in_order}
-use Rattle.lt_forest.specs.Cuts.{Cut, end, held, Shows, bare}
-use Rattle.lt_forest.specs.Forest.{Growth, search_tree, Represents, stands, IsForest, ChangesOnly}
-use Rattle.lt_forest.specs.Plans.{Top, from_anchor, from_row, IsPart, IsClosedFor, Lays, range_of, ShowsDeed}
-use Rattle.lt_forest.specs.WorkedTrees.{from_to, at, holds, leads, one_tree, four, four_tree, four_forest, tree_modes, four_state, four_events, with_images, Works, WorkedInsertion, WorkedMerge, WorkedRemoval, WorkedJoin, WorkedQuestion, WorkedRotation}
+use Rattle.lt_forest.specs.Trees.{Node, Nodes}
+use Rattle.lt_forest.specs.Cuts.{Cut, end, held, Shows}
+use Rattle.lt_forest.specs.Forest.{search_tree, Represents, stands, IsForest, ChangesOnly}
+use Rattle.lt_forest.specs.Plans.{Top, from_anchor, from_row, IsPart, IsClosedFor, Lays, ShowsDeed}
+use Rattle.lt_forest.specs.WorkedTrees.{from_to, at, holds, leads, one_tree, four, four_tree, four_forest, tree_modes, four_state, four_events, with_images, WorkedInsertion, WorkedMerge, WorkedRemoval, WorkedJoin, WorkedQuestion, WorkedRotation}
 use Rattle.lt_forest.proofs.VisitLaws.{visited_closed}
 use Rattle.lt_forest.proofs.WidenLaws.{widens}
 use Rattle.lt_forest.proofs.OrderLaws.{order_ends, order_rows, order_pairs}
@@ -53,7 +53,8 @@ among r (x ∷ xs) all some = dite (ℕ_discrete x r)
 
 four_further : AllFurther (2 ∷ 4 ∷ 6 ∷ 5 ∷ 3 ∷ 7 ∷ 8 ∷ [])
 four_further =
-    (lit< tt, lit< tt, (lit< tt, lit< tt, (lit< tt, lit< tt, (lit< tt, lit< tt, (lit< tt, lit< tt, (lit< tt, lit< tt, (lit< tt, lit< tt, tt)))))))
+    let vacant : AllFurther (3 ∷ 7 ∷ 8 ∷ []) = (lit< tt, lit< tt, (lit< tt, lit< tt, (lit< tt, lit< tt, tt))) in
+    (lit< tt, lit< tt, (lit< tt, lit< tt, (lit< tt, lit< tt, (lit< tt, lit< tt, vacant))))
 
 four_once : (r : ℕ) → 1 < r → r < 9 → stands 1 four_forest r ≡ 1
 four_once zero lo hi = absurd (omega arith)
@@ -144,7 +145,10 @@ insertion =
       replies = refl;
       question = refl;
     } in
-    record { relaid = event_relaid part lays closed shows (λ s ne. refl); replies = deed_replies part lays closed shows (λ s ne. refl) }
+    record {
+      relaid = event_relaid part lays closed shows (λ s ne. refl);
+      replies = deed_replies part lays closed shows (λ s ne. refl);
+    }
 
 pub merge : WorkedMerge
 unfolding key_le
@@ -173,7 +177,10 @@ merge =
       replies = refl;
       question = refl;
     } in
-    record { relaid = event_relaid part lays closed shows (λ s ne. refl); replies = deed_replies part lays closed shows (λ s ne. refl) }
+    record {
+      relaid = event_relaid part lays closed shows (λ s ne. refl);
+      replies = deed_replies part lays closed shows (λ s ne. refl);
+    }
 
 pub removal : WorkedRemoval
 unfolding key_le
@@ -203,7 +210,10 @@ removal =
     } in
     record {
       widened = widens four 5 narrow 6 (3 ∷ []) [] (refl, refl, refl) refl;
-      works = record { relaid = event_relaid part lays closed shows (λ s ne. refl); replies = deed_replies part lays closed shows (λ s ne. refl) };
+      works = record {
+        relaid = event_relaid part lays closed shows (λ s ne. refl);
+        replies = deed_replies part lays closed shows (λ s ne. refl);
+      };
     }
 
 pub join : WorkedJoin
@@ -233,7 +243,10 @@ join =
       replies = refl;
       question = tt;
     } in
-    record { relaid = event_relaid part lays closed shows (λ s ne. refl); replies = deed_replies part lays closed shows (λ s ne. refl) }
+    record {
+      relaid = event_relaid part lays closed shows (λ s ne. refl);
+      replies = deed_replies part lays closed shows (λ s ne. refl);
+    }
 
 pub question : WorkedQuestion
 unfolding key_le
@@ -259,7 +272,10 @@ question =
       replies = refl;
       question = refl;
     } in
-    record { relaid = event_relaid part lays closed shows (λ s ne. refl); replies = deed_replies part lays closed shows (λ s ne. refl) }
+    record {
+      relaid = event_relaid part lays closed shows (λ s ne. refl);
+      replies = deed_replies part lays closed shows (λ s ne. refl);
+    }
 
 pub rotation : WorkedRotation
 unfolding key_le

@@ -1,11 +1,12 @@
 -- What plans make of buffers, the chains of rows below the anchors in Buffer mode. Here c is what the rows hold before a
 -- plan, and d after it. Which rows may change, and which go from the pool and to it, is said beside these facts by ChangesOnly
 -- and MovesPool.
-use Rattle.std.specs.Prelude.{◌≡◌, ℕ, ◌+◌, ◌<◌, List, [], ◌∷◌, ◌++◌, length}
+use Rattle.std.specs.Prelude.{◌≡◌, ℕ, ◌+◌, ◌<◌, List, [], ◌∷◌, ◌++◌, length, Bool}
 use Rattle.lt_ranges.specs.Interval.{Interval}
 use Rattle.lt_seq.specs.declared.event.Mode.{Mode}
 use Rattle.lt_seq.specs.declared.event.Mode.TheVariants.{Tree as TreeMode, Buffer}
 use Rattle.lt_seq.specs.declared.event.Deed.{Deed}
+use Rattle.lt_seq.specs.declared.event.Deed.TheVariants.{Free}
 use Rattle.lt_seq.specs.Table.{Setting, TreeState, tree_after, replied}
 use Rattle.lt_forest.specs.Counts.{times}
 use Rattle.lt_forest.specs.Trees.{Nodes, in_order, pairs_in}
@@ -62,3 +63,7 @@ pub record Drops (trees t owner count : ℕ) (c d : Nodes) (before after : Mode)
   pub top : (d t).left ≡ 0
   pub pool_link : (d trees).left ≡ (c t).left
   pub joint : (d last).left ≡ (c trees).left
+
+-- and the free that it is, with the count that the chain shows
+abbrev pub whole_free : ℕ → Interval → Bool → ℕ → Nodes → List ℕ → Deed
+whole_free t range first owner c chain = Free t range first (length (folded owner c chain))

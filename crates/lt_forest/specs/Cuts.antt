@@ -1,9 +1,10 @@
 -- What a pass shows below a link: the rows that it holds, and the links that hang between them.
-use Rattle.std.specs.Prelude.{◌≡◌, ◌⊎◌, ℕ, zero, suc, ◌+◌, List, [], ◌∷◌, ◌++◌, max, true}
+use Rattle.std.specs.Prelude.{◌≡◌, ◌⊎◌, ℕ, zero, suc, ◌+◌, ◌<◌, List, [], ◌∷◌, ◌++◌, max, true}
 use Rattle.lt_ranges.specs.Key.{key_le}
 use Rattle.lt_ranges.specs.Interval.{Interval}
+use Rattle.lt_forest.specs.Counts.{times}
 use Rattle.lt_forest.specs.Bounds.{Bound, Gap, NoGreater, NoLess, Within}
-use Rattle.lt_forest.specs.Trees.{Tree, leaf, node, Nodes, left_end, right_end}
+use Rattle.lt_forest.specs.Trees.{Tree, leaf, node, Nodes, left_end, right_end, in_order}
 use Rattle.std.specs.Prelude.{Some, None}
 
 -- a tree that is cut off at links
@@ -27,8 +28,7 @@ bare cut = fill (λ _. leaf) cut
 
 -- a row of the cut
 abbrev pub IsRow : ℕ → Cut → Type 0
-IsRow q (end l) = ⊥
-IsRow q (held a r b) = (q ≡ r) ⊎ (IsRow q a ⊎ IsRow q b)
+IsRow q cut = 0 < times q (in_order (bare cut))
 
 -- how many rows stand one below the other, at most
 abbrev pub depth : Cut → ℕ

@@ -95,6 +95,9 @@ ChangesOnly rows c d = (r : ℕ) → times r rows ≡ 0 → c r ≡ d r
 abbrev pub KeepsModes : ℕ → (ℕ → Mode) → (ℕ → Mode) → Type 0
 KeepsModes t mode mode' = (s : ℕ) → s ≢ t → mode s ≡ mode' s
 
+abbrev pub NoRow : ℕ → Type 0
+NoRow r = ⊥
+
 -- What a plan makes of a forest: one of the table after, in which each row that isn't left keeps the gap that was seen for
 -- it, and which has as many rows in use as before, less those that are gone and with those that came.
 pub record Becomes (trees rows : ℕ) (c d : Nodes) (mode mode' : ℕ → Mode) (state after : List TreeState) (f : Forest)

@@ -1,19 +1,19 @@
 -- What is true of buffers, and of the plans that change them.
-use Rattle.std.specs.Prelude.{◌≡◌, ℕ, ◌<◌, List, [], ◌∷◌, ◌++◌, length, slice_set, Bool, true}
+use Rattle.std.specs.Prelude.{◌≡◌, ℕ, ◌<◌, List, [], ◌∷◌, ◌++◌, length, Bool, true}
 use Rattle.lt_ranges.specs.Interval.{Interval}
 use Rattle.lt_seq.specs.declared.event.Mode.{Mode}
 use Rattle.lt_seq.specs.declared.event.Mode.TheVariants.{Buffer}
 use Rattle.lt_seq.specs.declared.event.Reply.TheVariants.{Buffered}
 use Rattle.lt_seq.specs.declared.event.Deed.{Deed}
-use Rattle.lt_seq.specs.declared.event.Deed.TheVariants.{Ask, Free, Who}
+use Rattle.lt_seq.specs.declared.event.Deed.TheVariants.{Ask, Who}
 use Rattle.lt_seq.specs.Pairs.{granted}
 use Rattle.lt_seq.specs.Sound.{AllSound}
-use Rattle.lt_seq.specs.Table.{Setting, TreeState, tree_at, tree_after, replied, tree_of, is_whole}
+use Rattle.lt_seq.specs.Table.{Setting, TreeState, tree_at, tree_of, is_whole}
 use Rattle.lt_forest.specs.Trees.{Nodes, in_order}
 use Rattle.lt_forest.specs.Cuts.{Cut, bare}
-use Rattle.lt_forest.specs.Forest.{Forest, IsChain, AllOf, folded, IsForest, ChangesOnly, KeepsModes, Becomes}
-use Rattle.lt_forest.specs.Plans.{MovesPool}
-use Rattle.lt_forest.specs.Buffers.{Begins, Appends, Ends, Drops}
+use Rattle.lt_forest.specs.Forest.{NoRow, Forest, IsChain, AllOf, folded, IsForest, ChangesOnly, KeepsModes, Becomes}
+use Rattle.lt_forest.specs.Plans.{after_deed, IsReplied, MovesPool}
+use Rattle.lt_forest.specs.Buffers.{whole_free, Begins, Appends, Ends, Drops}
 
 -- A chain's pairs are what its rows grant from the last to the first, and they are its transaction's; the mode counts the rows.
 abbrev pub ChainShowsBuffer : Type 0
@@ -34,9 +34,8 @@ BufferBegins =
     (t q txn : ℕ) (range : Interval)
     → IsForest trees rows c mode state f → t < trees → Begins setting trees t q txn range c d (mode t) (mode' t)
     → ChangesOnly (t ∷ trees ∷ q ∷ []) c d → KeepsModes t mode mode'
-    → Becomes trees rows c d mode mode' state
-    (slice_set state t (tree_after setting txn (Ask t range Buffered) (tree_at state t))) f (λ r. ⊥) 0 1
-    × (replied setting txn (Ask t range Buffered) (tree_at state t) ≡ Ask t range Buffered)
+    → Becomes trees rows c d mode mode' state (after_deed setting txn (Ask t range Buffered) state) f NoRow 0 1
+    × IsReplied setting txn (Ask t range Buffered) state
 
 -- a buffer gets one row more
 abbrev pub BufferGrows : Type 0
@@ -45,9 +44,8 @@ BufferGrows =
     (t q txn count : ℕ) (range : Interval)
     → IsForest trees rows c mode state f → t < trees → Appends setting trees t q txn count range c d (mode t) (mode' t)
     → ChangesOnly (t ∷ trees ∷ q ∷ []) c d → KeepsModes t mode mode'
-    → Becomes trees rows c d mode mode' state
-    (slice_set state t (tree_after setting txn (Ask t range Buffered) (tree_at state t))) f (λ r. ⊥) 0 1
-    × (replied setting txn (Ask t range Buffered) (tree_at state t) ≡ Ask t range Buffered)
+    → Becomes trees rows c d mode mode' state (after_deed setting txn (Ask t range Buffered) state) f NoRow 0 1
+    × IsReplied setting txn (Ask t range Buffered) state
 
 -- any deed that ends a buffer makes a search tree of it
 abbrev pub BufferEnds : Type 0
@@ -58,10 +56,8 @@ BufferEnds =
     → Ends setting txn owner count deed (tree_of deed) c d (mode (tree_of deed)) (mode' (tree_of deed)) olds new taken given
     → MovesPool trees c d taken given → ChangesOnly (tree_of deed ∷ trees ∷ olds ++ taken) c d
     → KeepsModes (tree_of deed) mode mode'
-    → Becomes trees rows c d mode mode' state
-    (slice_set state (tree_of deed) (tree_after setting txn deed (tree_at state (tree_of deed)))) f (λ r. ⊥)
-    (length olds) (length (in_order (bare new)))
-    × (replied setting txn deed (tree_at state (tree_of deed)) ≡ deed)
+    → Becomes trees rows c d mode mode' state (after_deed setting txn deed state) f NoRow (length olds) (length (in_order (bare new)))
+    × IsReplied setting txn deed state
 
 -- a buffer is dropped whole, as its owner frees the whole range
 abbrev pub BufferIsDropped : Type 0
@@ -70,12 +66,9 @@ BufferIsDropped =
     (t owner count : ℕ) (range : Interval) (first : Bool) (front : List ℕ) (last : ℕ)
     → IsForest trees rows c mode state f → t < trees → Drops trees t owner count c d (mode t) (mode' t) front last
     → ChangesOnly (t ∷ trees ∷ last ∷ []) c d → KeepsModes t mode mode' → is_whole range ≡ true
-    → Becomes trees rows c d mode mode' state
-    (slice_set state t
-    (tree_after setting owner (Free t range first (length (folded owner c (front ++ last ∷ [])))) (tree_at state t)))
-    f (λ r. ⊥) (length (front ++ last ∷ [])) 0
-    × (replied setting owner (Free t range first (length (folded owner c (front ++ last ∷ [])))) (tree_at state t)
-    ≡ Free t range first (length (folded owner c (front ++ last ∷ []))))
+    → Becomes trees rows c d mode mode' state (after_deed setting owner (whole_free t range first owner c (front ++ last ∷ [])) state) f
+    NoRow (length (front ++ last ∷ [])) 0
+    × IsReplied setting owner (whole_free t range first owner c (front ++ last ∷ [])) state
 
 -- where the question is who holds against a buffer's owner, the answer is nobody, and the table stays as it is
 abbrev pub OwnerIsAlone : Type 0
@@ -83,5 +76,5 @@ OwnerIsAlone =
     (trees rows : ℕ) (c : Nodes) (mode : ℕ → Mode) (state : List TreeState) (f : Forest) (setting : Setting)
     (t txn owner count : ℕ) (range : Interval)
     → IsForest trees rows c mode state f → AllSound state → t < trees → mode t ≡ Buffer owner count
-    → (slice_set state t (tree_after setting txn (Who t range owner []) (tree_at state t)) ≡ state)
-    × (replied setting txn (Who t range owner []) (tree_at state t) ≡ Who t range owner [])
+    → (after_deed setting txn (Who t range owner []) state ≡ state)
+    × IsReplied setting txn (Who t range owner []) state

@@ -1,11 +1,11 @@
 -- What is true of parts of search trees, and of plans that lay them anew.
-use Rattle.std.specs.Prelude.{◌≡◌, ℕ, ◌<◌, List, [], ◌++◌, slice_set, true, None}
+use Rattle.std.specs.Prelude.{◌≡◌, ℕ, ◌<◌, List, [], ◌++◌, true, None}
 use Rattle.lt_ranges.specs.Interval.{Interval, overlap, whole}
 use Rattle.lt_seq.specs.declared.event.Pair.{Pair}
 use Rattle.lt_seq.specs.declared.event.Mode.{Mode}
 use Rattle.lt_seq.specs.declared.event.Deed.{Deed}
 use Rattle.lt_seq.specs.Sound.{AllSound}
-use Rattle.lt_seq.specs.Table.{Setting, TreeState, tree_at, tree_after, replied, tree_of}
+use Rattle.lt_seq.specs.Table.{Setting, TreeState, tree_at, tree_of}
 use Rattle.lt_forest.specs.Counts.{times}
 use Rattle.lt_forest.specs.Bounds.{Gap}
 use Rattle.lt_forest.specs.Changes.{Has}
@@ -14,7 +14,7 @@ use Rattle.lt_forest.specs.Paths.{Path, plug, front, back, lower, upper}
 use Rattle.lt_forest.specs.Cuts.{Cut, fill, bare, ends, AllEnds}
 use Rattle.lt_forest.specs.Visits.{IsVisited}
 use Rattle.lt_forest.specs.Forest.{Forest, search_tree, IsTree, IsForest, KeepsModes}
-use Rattle.lt_forest.specs.Plans.{Top, from_anchor, from_row, IsInGap, IsPart, IsClosedFor, Lays, range_of, ShowsDeed, Relaid}
+use Rattle.lt_forest.specs.Plans.{after_deed, IsReplied, Top, from_anchor, from_row, IsInGap, IsPart, IsClosedFor, Lays, range_of, ShowsDeed, Relaid}
 
 -- the search trees of a forest are in order
 abbrev pub TreesAreOrdered : Type 0
@@ -87,9 +87,8 @@ PartIsLaidForDeed =
     → IsPart trees rows c mode state f (tree_of deed) top cut → Lays trees (tree_of deed) top c d cut new taken given
     → IsClosedFor (range_of deed) top c cut
     → ShowsDeed setting txn deed c d cut new (mode (tree_of deed)) (mode' (tree_of deed)) → KeepsModes (tree_of deed) mode mode'
-    → Relaid trees rows c d mode mode' state
-    (slice_set state (tree_of deed) (tree_after setting txn deed (tree_at state (tree_of deed)))) f (tree_of deed) top cut new
-    × (replied setting txn deed (tree_at state (tree_of deed)) ≡ deed)
+    → Relaid trees rows c d mode mode' state (after_deed setting txn deed state) f (tree_of deed) top cut new
+    × IsReplied setting txn deed state
 
 -- a part may be laid anew with the same pairs, and the table stays
 abbrev pub PartIsLaidAgain : Type 0

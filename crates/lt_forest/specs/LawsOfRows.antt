@@ -5,8 +5,8 @@ use Rattle.lt_seq.specs.declared.event.Mode.TheVariants.{Tree as TreeMode, Buffe
 use Rattle.lt_seq.specs.Table.{TreeState, fresh, used}
 use Rattle.lt_forest.specs.Counts.{times}
 use Rattle.lt_forest.specs.Bounds.{Gap}
-use Rattle.lt_forest.specs.Trees.{Nodes, in_order}
-use Rattle.lt_forest.specs.Cuts.{Cut, bare}
+use Rattle.lt_forest.specs.Trees.{Nodes}
+use Rattle.lt_forest.specs.Cuts.{Cut, IsRow}
 use Rattle.lt_forest.specs.Forest.{Forest, chain, IsRun, IsForest, IsPlaced}
 use Rattle.lt_forest.specs.Plans.{Top, IsPart}
 use Rattle.lt_forest.specs.Links.{Slot, left_of, right_of, link_in, IsLinkOf, IsLink, Leads}
@@ -73,7 +73,7 @@ GapRowsAreLinked =
 abbrev pub PartRowsAreLinked : Type 0
 PartRowsAreLinked =
     (trees rows : ℕ) (c : Nodes) (mode : ℕ → Mode) (state : List TreeState) (f : Forest) (t : ℕ) (top : Top) (cut : Cut) (q : ℕ)
-    → IsPart trees rows c mode state f t top cut → 0 < times q (in_order (bare cut))
+    → IsPart trees rows c mode state f t top cut → IsRow q cut
     → IsLinkOf (f.tree t) (left_of q) × IsLinkOf (f.tree t) (right_of q)
 
 -- and the left one of each row along which an anchor leads in Buffer mode, or the pool's anchor

@@ -1,22 +1,22 @@
 -- What is true of a forest by what one pass holds and shows. Here has finds the rows that the pass holds, v is what they show,
 -- and v' what they show with the images of its plan.
-use Rattle.std.specs.Prelude.{◌≡◌, ◌≢◌, ◌⊎◌, ℕ, ◌+◌, ◌<◌, List, [], ◌∷◌, ◌++◌, length, slice_set, Bool, true, None}
+use Rattle.std.specs.Prelude.{◌≡◌, ◌≢◌, ◌⊎◌, ℕ, ◌+◌, ◌<◌, List, [], ◌∷◌, ◌++◌, length, Bool, true, None}
 use Rattle.lt_ranges.specs.Interval.{Interval, overlap, whole}
 use Rattle.lt_seq.specs.declared.event.Pair.{Pair}
 use Rattle.lt_seq.specs.declared.event.Mode.{Mode}
 use Rattle.lt_seq.specs.declared.event.Mode.TheVariants.{Tree as TreeMode, Buffer}
 use Rattle.lt_seq.specs.declared.event.Reply.TheVariants.{Buffered}
 use Rattle.lt_seq.specs.declared.event.Deed.{Deed}
-use Rattle.lt_seq.specs.declared.event.Deed.TheVariants.{Ask, Free}
+use Rattle.lt_seq.specs.declared.event.Deed.TheVariants.{Ask}
 use Rattle.lt_seq.specs.Sound.{AllSound}
-use Rattle.lt_seq.specs.Table.{Setting, TreeState, tree_at, tree_after, replied, tree_of, is_whole, used}
+use Rattle.lt_seq.specs.Table.{Setting, TreeState, tree_at, tree_of, is_whole, used}
 use Rattle.lt_forest.specs.Bounds.{Gap}
 use Rattle.lt_forest.specs.Changes.{Has}
 use Rattle.lt_forest.specs.Trees.{Nodes, left_end, right_end, in_order, pairs_in}
 use Rattle.lt_forest.specs.Cuts.{Cut, bare}
-use Rattle.lt_forest.specs.Forest.{Forest, IsTree, IsChain, AllOf, folded, IsForest, IsPlaced, KeepsModes, Becomes}
-use Rattle.lt_forest.specs.Plans.{Top, from_anchor, IsSeen, IsClosedFor, range_of, Relaid}
-use Rattle.lt_forest.specs.Buffers.{Begins, Appends}
+use Rattle.lt_forest.specs.Forest.{NoRow, Forest, IsTree, IsChain, AllOf, folded, IsForest, IsPlaced, KeepsModes, Becomes}
+use Rattle.lt_forest.specs.Plans.{after_deed, IsReplied, Top, from_anchor, IsSeen, IsClosedFor, range_of, Relaid}
+use Rattle.lt_forest.specs.Buffers.{whole_free, Begins, Appends}
 use Rattle.lt_forest.specs.Links.{Slot, row_with, link_in, IsLinkOf, IsLink, Leads}
 use Rattle.lt_forest.specs.Views.{IsIn, Agrees, IsView, AllHeld, HoldsPart, PlanLays, PlanShows, PlansThese, PlanEnds, PlanDrops}
 
@@ -122,9 +122,8 @@ PlanServesDeed =
     → PlanLays (IsIn has) planned trees (tree_of deed) top v v' cut new taken given → IsClosedFor (range_of deed) top v cut
     → PlanShows setting txn deed top score v v' cut new (mode (tree_of deed)) (mode' (tree_of deed))
     → KeepsModes (tree_of deed) mode mode'
-    → Relaid trees rows c d mode mode' state
-    (slice_set state (tree_of deed) (tree_after setting txn deed (tree_at state (tree_of deed)))) f (tree_of deed) top cut new
-    × (replied setting txn deed (tree_at state (tree_of deed)) ≡ deed)
+    → Relaid trees rows c d mode mode' state (after_deed setting txn deed state) f (tree_of deed) top cut new
+    × IsReplied setting txn deed state
 
 -- and so is what it owes for a change of layout
 abbrev pub PlanServesLayout : Type 0
@@ -144,9 +143,8 @@ PlanBegins =
     → IsForest trees rows c mode state f → t < trees → IsView (IsIn has) planned v v' c d
     → PlansThese (IsIn has) planned (t ∷ trees ∷ q ∷ []) → Begins setting trees t q txn range v v' (mode t) (mode' t)
     → KeepsModes t mode mode'
-    → Becomes trees rows c d mode mode' state
-    (slice_set state t (tree_after setting txn (Ask t range Buffered) (tree_at state t))) f (λ r. ⊥) 0 1
-    × (replied setting txn (Ask t range Buffered) (tree_at state t) ≡ Ask t range Buffered)
+    → Becomes trees rows c d mode mode' state (after_deed setting txn (Ask t range Buffered) state) f NoRow 0 1
+    × IsReplied setting txn (Ask t range Buffered) state
 
 -- gets one row more,
 abbrev pub PlanAppends : Type 0
@@ -156,9 +154,8 @@ PlanAppends =
     → IsForest trees rows c mode state f → t < trees → IsView (IsIn has) planned v v' c d
     → PlansThese (IsIn has) planned (t ∷ trees ∷ q ∷ []) → Appends setting trees t q txn count range v v' (mode t) (mode' t)
     → KeepsModes t mode mode'
-    → Becomes trees rows c d mode mode' state
-    (slice_set state t (tree_after setting txn (Ask t range Buffered) (tree_at state t))) f (λ r. ⊥) 0 1
-    × (replied setting txn (Ask t range Buffered) (tree_at state t) ≡ Ask t range Buffered)
+    → Becomes trees rows c d mode mode' state (after_deed setting txn (Ask t range Buffered) state) f NoRow 0 1
+    × IsReplied setting txn (Ask t range Buffered) state
 
 -- ends as a search tree,
 abbrev pub PlanEndsBuffer : Type 0
@@ -170,10 +167,8 @@ PlanEndsBuffer =
     → PlanEnds (IsIn has) planned setting trees txn owner count deed (tree_of deed) v v' (mode (tree_of deed))
     (mode' (tree_of deed)) olds new taken given
     → KeepsModes (tree_of deed) mode mode'
-    → Becomes trees rows c d mode mode' state
-    (slice_set state (tree_of deed) (tree_after setting txn deed (tree_at state (tree_of deed)))) f (λ r. ⊥)
-    (length olds) (length (in_order (bare new)))
-    × (replied setting txn deed (tree_at state (tree_of deed)) ≡ deed)
+    → Becomes trees rows c d mode mode' state (after_deed setting txn deed state) f NoRow (length olds) (length (in_order (bare new)))
+    × IsReplied setting txn deed state
 
 -- or is dropped whole
 abbrev pub PlanDropsBuffer : Type 0
@@ -184,9 +179,6 @@ PlanDropsBuffer =
     → IsForest trees rows c mode state f → t < trees → IsView (IsIn has) planned v v' c d
     → PlanDrops (IsIn has) planned trees t owner count v v' (mode t) (mode' t) front last → KeepsModes t mode mode'
     → is_whole range ≡ true
-    → Becomes trees rows c d mode mode' state
-    (slice_set state t
-    (tree_after setting owner (Free t range first (length (folded owner v (front ++ last ∷ [])))) (tree_at state t)))
-    f (λ r. ⊥) (length (front ++ last ∷ [])) 0
-    × (replied setting owner (Free t range first (length (folded owner v (front ++ last ∷ [])))) (tree_at state t)
-    ≡ Free t range first (length (folded owner v (front ++ last ∷ []))))
+    → Becomes trees rows c d mode mode' state (after_deed setting owner (whole_free t range first owner v (front ++ last ∷ [])) state) f
+    NoRow (length (front ++ last ∷ [])) 0
+    × IsReplied setting owner (whole_free t range first owner v (front ++ last ∷ [])) state

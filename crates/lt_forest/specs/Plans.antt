@@ -1,5 +1,5 @@
 -- Parts of search trees, and plans that lay them anew. Here c is what the rows hold before a plan, and d after it.
-use Rattle.std.specs.Prelude.{◌≡◌, ℕ, ◌+◌, ◌<◌, List, [], ◌∷◌, ◌++◌, length, Bool, false, Some, None}
+use Rattle.std.specs.Prelude.{◌≡◌, ℕ, ◌+◌, ◌<◌, List, ◌∷◌, ◌++◌, length, slice_set, Bool, false, None}
 use Rattle.lt_ranges.specs.Interval.{Interval, whole}
 use Rattle.lt_seq.specs.declared.event.Pair.{Pair}
 use Rattle.lt_seq.specs.declared.event.Mode.{Mode}
@@ -7,13 +7,13 @@ use Rattle.lt_seq.specs.declared.event.Deed.{Deed}
 use Rattle.lt_seq.specs.declared.event.Deed.TheVariants.{Ask, Free, Who, Join}
 use Rattle.lt_seq.specs.History.{IsQuestion}
 use Rattle.lt_seq.specs.Sound.{AllSound}
-use Rattle.lt_seq.specs.Table.{Setting, TreeState, tree_after, replied}
+use Rattle.lt_seq.specs.Table.{Setting, TreeState, tree_at, tree_of, tree_after, replied}
 use Rattle.lt_forest.specs.Counts.{times}
 use Rattle.lt_forest.specs.Bounds.{Gap, IsInside}
 use Rattle.lt_forest.specs.Changes.{IsLocal}
 use Rattle.lt_forest.specs.Trees.{Node, Nodes, in_order, pairs_in}
 use Rattle.lt_forest.specs.Cuts.{Cut, Shows, bare, IsRow, HasCutGap, ends, Looser, AllAside}
-use Rattle.lt_forest.specs.Forest.{Growth, Forest, IsTree, IsRun, IsForest, GapIn, IsPlaced, ChangesOnly, KeepsModes, Becomes}
+use Rattle.lt_forest.specs.Forest.{Growth, Forest, IsTree, IsRun, IsForest, GapIn, ChangesOnly, Becomes}
 
 -- from where a part hangs: from its tree's anchor, or from a row of the tree with the gap that was seen for it
 pub data Top : Type 0 where
@@ -87,6 +87,15 @@ range_of (Ask tree range reply) = range
 range_of (Free tree range first count) = range
 range_of (Who tree range named owners) = range
 range_of (Join tree before after) = whole
+
+-- the table after a deed
+abbrev pub after_deed : Setting → ℕ → Deed → List TreeState → List TreeState
+after_deed setting txn deed state =
+    slice_set state (tree_of deed) (tree_after setting txn deed (tree_at state (tree_of deed)))
+
+-- the deed's replies are the table's
+abbrev pub IsReplied : Setting → ℕ → Deed → List TreeState → Type 0
+IsReplied setting txn deed state = replied setting txn deed (tree_at state (tree_of deed)) ≡ deed
 
 -- what the part shows of its tree
 abbrev pub shown_state : Nodes → Cut → Mode → TreeState

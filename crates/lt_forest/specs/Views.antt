@@ -8,7 +8,6 @@ use Rattle.lt_seq.specs.Table.{Setting}
 use Rattle.lt_forest.specs.Counts.{times}
 use Rattle.lt_forest.specs.Trees.{Nodes, in_order}
 use Rattle.lt_forest.specs.Cuts.{Cut, Shows, bare, ends, Looser}
-use Rattle.lt_forest.specs.Bounds.{Gap}
 use Rattle.lt_forest.specs.Forest.{ChangesOnly}
 use Rattle.lt_forest.specs.Buffers.{Ends, Drops}
 use Rattle.lt_forest.specs.Plans.{Top, from_anchor, from_row, top_link, MovesPool, SameRows, ShowsDeed}

@@ -5,11 +5,11 @@ use Rattle.lt_ranges.specs.Interval.{whole}
 use Rattle.lt_seq.specs.declared.event.Pair.{Pair}
 use Rattle.lt_seq.specs.declared.event.Mode.{Mode}
 use Rattle.lt_seq.specs.declared.event.Mode.TheVariants.{Tree as TreeMode, Buffer}
-use Rattle.lt_seq.specs.declared.event.Reply.TheVariants.{Granted, Buffered}
+use Rattle.lt_seq.specs.declared.event.Reply.TheVariants.{Granted}
 use Rattle.lt_seq.specs.declared.event.Deed.TheVariants.{Ask, Free}
 use Rattle.lt_seq.specs.Table.{Setting, TreeState, tree_at, replied}
 use Rattle.lt_forest.specs.Trees.{Nodes}
-use Rattle.lt_forest.specs.Forest.{Forest, Becomes}
+use Rattle.lt_forest.specs.Forest.{NoRow, Becomes}
 use Rattle.lt_forest.specs.Openings.{IsOpening, opening_forest}
 use Rattle.lt_forest.specs.WorkedTrees.{at, pair, holds, leads, nodes_in, tree_modes, with_images}
 
@@ -49,20 +49,17 @@ f_alone = table_in (Buffer 1 1) (pair 1 (at (codes "f")) ∷ [])
 abbrev pub f_and_m : List TreeState
 f_and_m = table_in (Buffer 1 2) (pair 1 (at (codes "f")) ∷ pair 1 (at (codes "m")) ∷ [])
 
-abbrev pub NoneLeft : ℕ → Type 0
-NoneLeft r = ⊥
-
 pub record WorkedBuffer : Type 0 where
   pub opening : IsOpening 1 5 none
   pub begins : Becomes 1 5 none one tree_modes (modes_of (Buffer 1 1)) (table_in (TreeMode 100) []) f_alone
-      (opening_forest 1 5) NoneLeft 0 1
-  pub grows : Becomes 1 5 one two (modes_of (Buffer 1 1)) (modes_of (Buffer 1 2)) f_alone f_and_m begins.next NoneLeft 0 1
+      (opening_forest 1 5) NoRow 0 1
+  pub grows : Becomes 1 5 one two (modes_of (Buffer 1 1)) (modes_of (Buffer 1 2)) f_alone f_and_m begins.next NoRow 0 1
   -- transaction 1 frees all
   pub drops : Becomes 1 5 two dropped (modes_of (Buffer 1 2)) (modes_of (TreeMode 100)) f_and_m (table_in (TreeMode 100) [])
-      grows.next NoneLeft 2 0
+      grows.next NoRow 2 0
   pub drops_replies : replied with_buffer 1 (Free 0 whole true 2) (tree_at f_and_m 0) ≡ Free 0 whole true 2
   -- or transaction 2 asks for "x", which ends the buffer
   pub ends : Becomes 1 5 two ended (modes_of (Buffer 1 2)) (modes_of (TreeMode 0)) f_and_m
       (table_in (TreeMode 0) (pair 1 (at (codes "f")) ∷ pair 1 (at (codes "m")) ∷ pair 2 (at (codes "x")) ∷ []))
-      grows.next NoneLeft 2 3
+      grows.next NoRow 2 3
   pub ends_replies : replied with_buffer 2 (Ask 0 (at (codes "x")) Granted) (tree_at f_and_m 0) ≡ Ask 0 (at (codes "x")) Granted

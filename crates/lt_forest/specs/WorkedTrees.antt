@@ -1,6 +1,6 @@
 -- Worked plans on a small table: one tree with four rows, and three rows in the pool. Transaction 1 holds "f", "m" and "t",
 -- transaction 2 holds "x".
-use Rattle.std.specs.Prelude.{◌≡◌, ℕ, List, [], ◌∷◌, map, codes, true, slice_index_or, nat_eq, if◌then◌else◌, Some, None}
+use Rattle.std.specs.Prelude.{◌≡◌, ℕ, List, [], ◌∷◌, codes, true, slice_index_or, nat_eq, if◌then◌else◌, Some, None}
 use Rattle.lt_ranges.specs.declared.key.Key.TheVariants.{Bytes}
 use Rattle.lt_ranges.specs.Interval.{Interval, whole}
 use Rattle.lt_seq.specs.declared.event.Pair.{Pair}
@@ -10,7 +10,7 @@ use Rattle.lt_seq.specs.declared.event.Reply.TheVariants.{Granted}
 use Rattle.lt_seq.specs.declared.event.Deed.{Deed}
 use Rattle.lt_seq.specs.declared.event.Deed.TheVariants.{Ask, Free, Who, Join}
 use Rattle.lt_seq.specs.declared.event.Event.{Event}
-use Rattle.lt_seq.specs.Table.{Setting, TreeState, tree_at, tree_after, replied}
+use Rattle.lt_seq.specs.Table.{Setting, TreeState, tree_at, replied}
 use Rattle.lt_forest.specs.Trees.{Node, Tree, leaf, node, Nodes}
 use Rattle.lt_forest.specs.Cuts.{Cut, end, held}
 use Rattle.lt_forest.specs.Forest.{Forest, search_tree}

@@ -1,5 +1,5 @@
 //! Laying a part out as a tree.
-ghost use Rattle.std.specs.Prelude.{◌≡◌, ◌+◌, ◌<◌, length, All, IfOk};
+ghost use Rattle.std.specs.Prelude.{◌≡◌, ◌+◌, ◌-◌, ◌^◌, ◌<◌, length, All, IfOk};
 ghost use Rattle.lt_forest.specs.declared.part.PartRow.{PartRow};
 ghost use Rattle.lt_forest.specs.Parts.{numbers};
 ghost use Rattle.lt_forest.specs.Layouts.{IsLayout, LaysOut};
@@ -7,17 +7,19 @@ ghost use Rattle.lt_forest.specs.Layouts.{IsLayout, LaysOut};
 use crate::part::{Part, PartRow, Placed};
 use std::alloc::{AllocError, Global};
 
-/// The link to the top row of a part, or to what hangs where it has no row, and its rows with their links.
+/// A part laid out as a tree.
 #[derive(Debug, Drop)]
 pub struct Layout {
+    /// The link to its top row, or what hangs where the part has no row.
     pub top: u32,
+    /// Its rows with their links, each behind the rows below it.
     pub placed: Vec<Placed>,
 }
 
 /// Places the rows below one link, the middle one at the top, and gives that link.
 fn place(rows: &[PartRow], hangs: &[u32], placed: &mut Vec<Placed>) -> Result<u32, AllocError>
     requires even { length hangs.now ≡ length rows.now + 1 }
-    requires small { All (λ (r : PartRow). r.row < 4294967295) rows.now }
+    requires small { All (λ (r : PartRow). r.row < 2 ^ 32 - 1) rows.now }
     ensures { IfOk result (λ link. LaysOut placed.old.items placed.new.items link (numbers rows.now) hangs.now) }
 {
     if rows.is_empty() {
@@ -31,13 +33,14 @@ fn place(rows: &[PartRow], hangs: &[u32], placed: &mut Vec<Placed>) -> Result<u3
     Ok(row + 1)
 }
 
-/// Lays a part out as a balanced tree that shows the same rows and hangs in key order. Each row is placed once, and stands
-/// in the list behind the rows below it.
+/// Lays a part out as a balanced tree that shows the same rows and hangs in key order. Of n rows at most one more than the
+/// logarithm of n stand below each other.
 ///
-/// The part has one more hang than rows, and each row's number is below 2^32 - 1, so that it has a link.
+/// The part has one more hang than rows, and each row's number is below 2^32 - 1, so that a link can name it. The one error
+/// is want of memory.
 pub fn lay_out(alloc: Global, part: &Part) -> Result<Layout, AllocError>
     requires even { length part.now.hangs.items ≡ length part.now.rows.items + 1 }
-    requires small { All (λ (r : PartRow). r.row < 4294967295) part.now.rows.items }
+    requires small { All (λ (r : PartRow). r.row < 2 ^ 32 - 1) part.now.rows.items }
     ensures { IfOk result (λ layout. IsLayout layout.placed.items layout.top (numbers part.now.rows.items) part.now.hangs.items) }
 {
     let mut placed = Vec::new(alloc);
