@@ -1,2 +1,1 @@
-pub mod LengthLaws
 pub mod StatusLaws

@@ -1,23 +1,24 @@
 -- What the statuses say, from what was read and what was answered.
-use Rattle.std.proofs.Common.{◌≡◌, ◌≢◌, ◌⊎◌, ◌∷◌, ◌<◌, ℕ, List, [], length, take, inl, inr, arith, subst, sym, ◌∙◌, ap, refl, Contains}
-use Rattle.std.proofs.lemmas.List.{take_all, length-take}
+use Rattle.std.proofs.Common.{◌≡◌, ◌≢◌, ◌⊎◌, ⊎_elim, ◌∷◌, ◌++◌, ◌<◌, ℕ, List, [], length, take, drop, Some, None, IfSome, inl, inr, arith, subst, sym, ◌∙◌, ap, refl, Contains}
+use Rattle.std.proofs.lemmas.Bool.{cases_lt}
+use Rattle.std.proofs.lemmas.List.{take_all, length-take, take-append-drop}
 use Rattle.std.specs.declared.option.Option.{Option}
 use Rattle.std.specs.Io.KnownBytes.{Appends, IsAtEnd}
-use Rattle.lt_edge.specs.Bytes.{AppendsPart}
+use Rattle.lt_edge.specs.Bytes.{AppendsPart, ReadsUpTo}
 use Rattle.lt_runner.proofs.HeadlineLaws.{serial_text}
 use Rattle.lt_trace.specs.Trace.{TraceView}
 use Rattle.lt_trace.specs.Grammar.{IsTrace, Spells, IsFirstFault, Refuses as IsRefused}
 use Rattle.lt_trace.specs.declared.fault.TraceFault.{TraceFault}
 use Rattle.lt_trace.specs.declared.fault.TraceFault.TheVariants as fault
 use Rattle.lt_trace.proofs.FaultLaws.{spelled_not_refused}
+use Rattle.lt_trace.proofs.LengthLaws.{first_bytes_decide, traces_are_short}
 use Rattle.lt_program.specs.Words.{IsCommand}
 use Rattle.lt_program.specs.Answers.{IsText, IsTextOfRun, IsAnswer, status_of, bytes_of}
-use Rattle.lt_program.specs.Statuses.{ReadsEnough, Works, Refuses, Breaks, IsComplete, most_bytes}
+use Rattle.lt_program.specs.Statuses.{ReadsEnough, IsNoTrace, Works, Refuses, Breaks, IsComplete, most_bytes}
 use Rattle.lt_program.specs.declared.answer.Answer.{Answer}
 use Rattle.lt_program.specs.declared.answer.Answer.TheVariants.{Text, Refusal}
 use Rattle.lt_program.specs.declared.words.Command.{Command}
 use Rattle.lt_program.specs.declared.words.Command.TheVariants.{Serial}
-use Rattle.lt_program.proofs.LengthLaws.{length-front_text}
 
 -- a fault that is no want of memory is the first one
 pub refused_first : (bytes : List ℕ) (f : TraceFault) → f ≢ fault.OutOfMemory → IsRefused bytes f → IsFirstFault bytes f
@@ -38,6 +39,24 @@ take_short : (n : ℕ) (all bytes : List ℕ) → bytes ≡ take n all → lengt
 take_short n all bytes e short =
     e ∙ take_all n all (omega (arith, ap length e, length-take n all))
 
+-- what refuses so many first bytes refuses all
+first_fault_of_all : (all bytes : List ℕ) (f : TraceFault) → bytes ≡ take most_bytes all → IsFirstFault bytes f → IsFirstFault all f
+first_fault_of_all all bytes f e first =
+    ⊎_elim
+    (λ short. let P : List ℕ → Type 0 = λ b. IsFirstFault b f in subst P (e ∙ take_all most_bytes all (omega (arith, short))) first)
+    (λ long.
+    let whole : bytes ++ drop most_bytes all ≡ all = ap (λ b. b ++ drop most_bytes all) e ∙ take-append-drop most_bytes all in
+    let P : List ℕ → Type 0 = λ b. IsFirstFault b f in
+    subst P whole (first_bytes_decide bytes (drop most_bytes all) f (omega (arith, long, ap length e, length-take most_bytes all)) first))
+    (cases_lt (length all) most_bytes)
+
+no_trace : (bytes : List ℕ) (f : TraceFault) → IsFirstFault bytes f → IsNoTrace bytes f
+no_trace bytes f first = record { no_trace = λ trace spelled. spelled_not_refused bytes trace f spelled first; first = first }
+
+all_no_trace : (left : Option (List ℕ)) (bytes : List ℕ) (f : TraceFault) → ReadsUpTo most_bytes left bytes → IsFirstFault bytes f → IfSome left (λ all. IsNoTrace all f)
+all_no_trace None bytes f reads first = tt
+all_no_trace (Some all) bytes f reads first = no_trace all f (first_fault_of_all all bytes f (reads all refl) first)
+
 -- the command's text is that of a run
 text_of_run : (command : Command) (trace : TraceView) (text : List ℕ) → IsTrace trace → IsText command trace text → IsTextOfRun command trace text
 text_of_run Serial trace text good is =
@@ -56,11 +75,11 @@ module _ (words : List (List ℕ)) (left rest : Option (List ℕ)) (status : ℕ
     trace = λ other all t said told spelled. inl s;
     no_trace = λ other all said told none.
         absurd (none is.0 (let P : List ℕ → Type 0 = λ b. Spells b is.0 in
-        subst P (take_short most_bytes all bytes (read.bytes_read all told) (length-front_text bytes is.0 is.1)) is.1));
+        subst P (take_short most_bytes all bytes (read.bytes_read all told) (traces_are_short bytes is.0 is.1)) is.1));
   }
   completes (Refusal line) is (inl s) five = record {
     trace = λ other all t said told spelled.
-        let short = length-front_text all t spelled in
+        let short = traces_are_short all t spelled in
         let same : bytes ≡ all = read.bytes_read all told ∙ take_all most_bytes all (omega arith) in
         absurd (spelled_not_refused bytes t is.0 (let P : List ℕ → Type 0 = λ b. Spells b t in subst P (sym same) spelled) is.1);
     no_trace = λ other all said told none. inl s;
@@ -77,7 +96,7 @@ module _ (words : List (List ℕ)) (left rest before after : Option (List ℕ)) 
     trace = is.0;
     text = text.items;
     form = form;
-    read = record { read = read.read; end = end (length-front_text bytes is.0 is.1) };
+    read = record { read = read.read; end = end (traces_are_short bytes is.0 is.1) };
     spelled = is.1;
     work = is.2;
     run = text_of_run command is.0 text.items is.1.0 is.2;
@@ -96,8 +115,8 @@ module _ (words : List (List ℕ)) (left rest before after : Option (List ℕ)) 
     fault = is.0;
     form = form;
     read = read;
-    no_trace = λ trace spelled. spelled_not_refused bytes trace is.0 spelled is.1;
-    first = is.1;
+    wrong = no_trace bytes is.0 is.1;
+    all_wrong = all_no_trace left bytes is.0 read.bytes_read is.1;
     written = (let P : List ℕ → Type 0 = λ t. Appends before after t in subst P is.2 (all (λ five. omega arith)));
   }
 

@@ -1,6 +1,6 @@
 -- What each status says of the words, of what the source had left and has left now, and of what the sink had taken
 -- and has taken now. None stands for a source or a sink that does not tell.
-use Rattle.std.specs.Prelude.{◌≡◌, ℕ, ◌⊎◌, List, Some}
+use Rattle.std.specs.Prelude.{◌≡◌, ℕ, ◌⊎◌, List, Some, IfSome}
 use Rattle.std.specs.declared.option.Option.{Option}
 use Rattle.std.specs.Io.KnownBytes.{Appends, Consumes, IsAtEnd}
 use Rattle.lt_edge.specs.Bytes.{AppendsPart, ReadsUpTo}
@@ -41,15 +41,20 @@ pub record Works (words : List (List ℕ)) (left rest before after : Option (Lis
   pub run : IsTextOfRun command trace text
   pub written : Appends before after text
 
--- The bytes read are no trace, and the line of their first fault was written.
+-- The bytes are no trace, and this is their first fault.
+pub record IsNoTrace (bytes : List ℕ) (fault : TraceFault) : Type 0 where
+  pub no_trace : (trace : TraceView) → ¬ Spells bytes trace
+  pub first : IsFirstFault bytes fault
+
+-- The bytes read are no trace, and nor is all that the source had. The line of their first fault was written.
 pub record Refuses (words : List (List ℕ)) (left rest before after : Option (List ℕ)) : Type 0 where
   pub command : Command
   pub bytes : List ℕ
   pub fault : TraceFault
   pub form : IsCommand words command
   pub read : ReadsEnough left rest bytes
-  pub no_trace : (trace : TraceView) → ¬ Spells bytes trace
-  pub first : IsFirstFault bytes fault
+  pub wrong : IsNoTrace bytes fault
+  pub all_wrong : IfSome left (λ all. IsNoTrace all fault)
   pub written : Appends before after (fault_text fault)
 
 -- Some of the text or of the refusal was written, but not all.

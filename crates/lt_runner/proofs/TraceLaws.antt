@@ -1,5 +1,5 @@
 -- What a trace gives its runner.
-use Rattle.std.proofs.Common.{◌≡◌, ℕ, ◌+◌, ◌≤◌, ◌^◌, List, [], ◌∷◌, ◌++◌, Bool, true, false, not, Option, Some, None, nat_lt, if◌then◌else◌, length, refl, sym, ap, subst, ◌*◌, arith}
+use Rattle.std.proofs.Common.{◌≡◌, ℕ, zero, suc, ◌+◌, ◌≤◌, ◌^◌, List, [], ◌∷◌, ◌++◌, Bool, true, false, not, Option, Some, None, nat_lt, if◌then◌else◌, length, refl, sym, ap, subst, ◌*◌, arith}
 use Rattle.std.specs.List.{All, AllByRecursion}
 use Rattle.std.specs.Option.{option_or}
 use Rattle.std.proofs.lemmas.Bool.Decides.{nat_tests}
@@ -13,8 +13,8 @@ use Rattle.lt_trace.specs.declared.line.LineDeed.TheVariants.{Try, Lock, End, Ab
 use Rattle.lt_trace.specs.declared.fault.TraceFault.{TraceFault}
 use Rattle.lt_trace.specs.declared.fault.TraceFault.TheVariants as fault
 use Rattle.lt_trace.specs.Trace.{TraceView}
-use Rattle.lt_trace.specs.Grammar.{IsTrace, IsBody, AreFaultless, IsDeedForm, is_outside, has_long_key, is_backwards, trees_in, fault_of_deed, fault_of_turn, whole}
-use Rattle.lt_runner.specs.Serial.{plan_of, setting_of}
+use Rattle.lt_trace.specs.Grammar.{txns_of, IsTrace, IsBody, AreFaultless, IsDeedForm, is_outside, has_long_key, is_backwards, trees_in, fault_of_deed, fault_of_turn, whole}
+use Rattle.lt_runner.specs.Serial.{plan_of, setting_of, most_of, most_events}
 use Rattle.lt_runner.specs.AtOnce.{IsPlain, IsOfTrace, HasPlaces}
 use Rattle.lt_runner.proofs.GrowthLaws.{AsksRange}
 
@@ -115,3 +115,18 @@ lines_fit trace first setting lines same all is_trace =
 pub places_fit : (trace : TraceView) (first : ℕ) (setting : Setting) (lines : List Line) → setting ≡ setting_of trace 1 first → lines ≡ trace.lines → IsTrace trace → first ≤ 2 ^ 38 → HasPlaces setting [] (3 * length lines)
 places_fit trace first setting lines same all is_trace low =
     omega (arith, ap (λ (s : Setting). s.plan.first) same, ap length all, few_lines trace is_trace)
+
+-- a run makes few events: three a line at the most
+times_more : (a b : ℕ) → 1 ≤ b → a ≤ a * b
+times_more a zero low = absurd (omega (arith, low))
+times_more a (suc b) low = omega (arith)
+
+most_is_many : (lines txns trees count : ℕ) → count ≤ 3 * lines → count ≤ most_of lines txns trees
+most_is_many lines txns trees count few =
+    let first = times_more (2 * lines + 2 * txns + 2) (txns + 1) (omega arith) in
+    let second = times_more ((2 * lines + 2 * txns + 2) * (txns + 1)) (2 * trees + txns + 4) (omega arith) in
+    omega (arith, few, first, second)
+
+pub few_events : (trace : TraceView) (lines : List Line) (count : ℕ) → lines ≡ trace.lines → count ≤ 3 * length lines → count ≤ most_events trace
+few_events trace lines count same few =
+    most_is_many (length trace.lines) (length (txns_of trace.lines)) trace.trees count (omega (arith, ap length same, few))

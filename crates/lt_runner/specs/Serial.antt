@@ -1,5 +1,5 @@
 -- The plain scheduler: one pass plays all transactions.
-use Rattle.std.specs.Prelude.{ℕ, List, [], ◌∷◌, ◌++◌, map, fold, length, Option, Some, None, Bool, true, false, ◌&&◌, ◌==◌, not, nat_lt, if◌then◌else◌, is_some, is_none, option_map}
+use Rattle.std.specs.Prelude.{ℕ, ◌+◌, ◌*◌, List, [], ◌∷◌, ◌++◌, map, fold, length, Option, Some, None, Bool, true, false, ◌&&◌, ◌==◌, not, nat_lt, if◌then◌else◌, is_some, is_none, option_map}
 use Rattle.std.specs.List.{filter_map, find}
 use Rattle.lt_seq.specs.declared.event.Deed.{Deed}
 use Rattle.lt_seq.specs.declared.event.Deed.TheVariants.{Ask, Free, Join}
@@ -198,3 +198,10 @@ serial trace first = ran (setting_of trace 1 first) (game_of trace first)
 
 abbrev pub ran_text : Ran → List ℕ
 ran_text run = text run.receipts run.outcomes run.places run.used
+
+-- the most events that a run may make, by its lines, transactions and trees
+abbrev pub most_of : ℕ → ℕ → ℕ → ℕ
+most_of lines txns trees = (2 * lines + 2 * txns + 2) * (txns + 1) * (2 * trees + txns + 4)
+
+abbrev pub most_events : TraceView → ℕ
+most_events trace = most_of (length trace.lines) (length (txns_of trace.lines)) trace.trees

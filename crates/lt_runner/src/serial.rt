@@ -3,7 +3,7 @@ ghost use Rattle.std.specs.Prelude.{◌≡◌, ◌≤◌, ◌<◌, ◌+◌, ◌*
 ghost use Rattle.std.specs.List.{All};
 ghost use Rattle.lt_seq.specs.Yard.{origin_of};
 ghost use Rattle.lt_trace.specs.Grammar.{txns_of};
-ghost use Rattle.lt_runner.specs.Serial.{game_at, takes_line, ends_one, played, plan_of, serial};
+ghost use Rattle.lt_runner.specs.Serial.{game_at, takes_line, ends_one, most_events, played, plan_of, serial};
 ghost use Rattle.lt_runner.specs.Transcript.{Tells};
 ghost use Rattle.lt_runner.specs.AtOnce.{IsAlone, AreQuiet, AreOpening, IsOfTrace, IsPlayable, HasPlaces, HasEnded, owed_by, numbers_of};
 
@@ -75,6 +75,7 @@ fn end_all<Y: Yard>(yard: &Y, pass: &mut Y::Pass, turns: &mut [Turn]) -> Result<
     ensures alone { IsAlone (Y.setting yard.now) (Y.Pass.view pass.new) }
     ensures numbers { OnOk result (numbers_of turns.new ≡ numbers_of turns.old) }
     ensures ended { OnOk result (All HasEnded turns.new) }
+    ensures owed { OnOk result (length (Y.Pass.view pass.new).front + owed_by turns.new ≤ length (Y.Pass.view pass.old).front + owed_by turns.old) }
     ensures game { OnOk result (game_at (Y.Pass.view pass.new).front turns.new false
         ≡ fold (λ game (txn : ℕ). ends_one (Y.setting yard.now) (numbers_of turns.old) game) (game_at (Y.Pass.view pass.old).front turns.old false) (numbers_of turns.old)) }
 {
@@ -100,6 +101,7 @@ fn play_lines<Y: Yard>(
     ensures alone { IsAlone (Y.setting yard.now) (Y.Pass.view pass.new) }
     ensures numbers { OnOk result (numbers_of turns.new ≡ txns_of lines.now) }
     ensures ended { OnOk result (All HasEnded turns.new) }
+    ensures few { OnOk result (length (Y.Pass.view pass.new).front ≤ 3 * length lines.now) }
     ensures game { OnOk result (game_at (Y.Pass.view pass.new).front turns.new false ≡ played (Y.setting yard.now) (txns_of lines.now) lines.now) }
 {
     take_lines(yard, pass, turns, lines)?;
@@ -124,6 +126,7 @@ fn play_trace<Y: Yard>(
     ensures alone { IsAlone (Y.setting yard.now) (Y.Pass.view pass.new) }
     ensures numbers { IfOk result (λ turns. numbers_of turns.items ≡ txns_of lines.now) }
     ensures ended { IfOk result (λ turns. All HasEnded turns.items) }
+    ensures few { OnOk result (length (Y.Pass.view pass.new).front ≤ 3 * length lines.now) }
     ensures game { IfOk result (λ turns. game_at (Y.Pass.view pass.new).front turns.items false ≡ played (Y.setting yard.now) (txns_of lines.now) lines.now) }
 {
     let mut turns = turns::opening(alloc, lines, trees)?;
@@ -157,6 +160,7 @@ pub fn run_serial<Y: Yard>(
     requires passes { 1 ≤ Y.MOST_PASSES }
     ensures serial { IfOk result (Tells (serial trace.now first)) }
     ensures played_to_end { IfOk result (λ transcript. map (λ ended. ended.txn) transcript.outcomes.items ≡ txns_of trace.now.lines) }
+    ensures few { IfOk result (λ transcript. transcript.places ≤ most_events trace.now) }
 {
     let plan = plan_of(trace, first);
     let lines = trace.lines();

@@ -1,11 +1,11 @@
-use Rattle.std.proofs.Common.{◌∙◌, ap, subst, map, []}
+use Rattle.std.proofs.Common.{◌≡◌, ◌∙◌, ap, subst, length, map, [], arith}
 use Rattle.lt_seq.specs.declared.plan.YardPlan.{YardPlan}
 use Rattle.lt_seq.specs.Table.{Setting}
 use Rattle.lt_seq.specs.Passes.{IsRest}
 use Rattle.lt_trace.specs.Grammar.{txns_of}
 use Rattle.lt_history.specs.declared.outcome.Ended.{Ended}
 use Rattle.lt_runner.specs.Serial.{played}
-use Rattle.lt_runner.proofs.TraceLaws.{lines_fit, places_fit}
+use Rattle.lt_runner.proofs.TraceLaws.{lines_fit, places_fit, few_events}
 use Rattle.lt_runner.proofs.ClosingLaws.{tells, only_front, numbers_ended}
 use Rattle.lt_runner.proofs.serial.run_serial.Goals as goal
 
@@ -40,3 +40,14 @@ pub returns-clause-played_to_end : goal.returns-clause-played_to_end
 returns-clause-played_to_end g c =
     ap (map (λ (ended : Ended). ended.txn)) c.in_ok-outcomes.ensures ∙ numbers_ended c.in_ok-turns.turns.items c.in_ok-turns.ensures.ended
     ∙ c.in_ok-turns.ensures.numbers ∙ ap txns_of c.lines-lines.ensures.lines
+
+pub returns-clause-few : goal.returns-clause-few
+returns-clause-few g c =
+    let view = g.Y.Pass.Pass.view in
+    let setting = g.Y.Yard.setting c.in_ok-yard.yard in
+    let new = c.play_trace.new.pass in
+    let closed = c.in_ok-lists.field-0 in
+    let front = only_front view c.in_ok-yard.passes.items new c.plan_of-plan.result.passes c.in_ok-yard.ensures.passes (ap (λ (plan : YardPlan). plan.passes) c.plan_of-plan.ensures) in
+    let rest = subst (λ events. IsRest setting events closed) front c.in_ok-lists.ensures.rest in
+    let events : closed.places ≡ length (view new).front = rest.places in
+    few_events c.args.trace.now c.lines-lines.result.now closed.places c.lines-lines.ensures.lines (omega (arith, events, c.in_ok-turns.ensures.few))
