@@ -15,6 +15,24 @@ use Rattle.lt_trace.specs.declared.fault.TraceFault.{TraceFault}
 use Rattle.lt_trace.specs.declared.fault.TraceFault.TheVariants as fault
 use Rattle.lt_trace.specs.Trace.{TraceView}
 
+-- Limits.
+
+-- of a trace, its header's four lines among them
+abbrev pub most_lines : ℕ
+most_lines = 65540
+
+-- of a line, without its newline
+abbrev pub most_line_bytes : ℕ
+most_line_bytes = 600
+
+-- of what is to be read of a text: one more than that many lines of that many bytes, each with a newline
+abbrev pub most_bytes : ℕ
+most_bytes = 39389541
+
+-- of the transactions that have lines
+abbrev pub most_txns : ℕ
+most_txns = 1024
+
 -- Numbers.
 
 -- the text is the decimal spelling of n, which lies between the two
@@ -160,8 +178,8 @@ first_line (b ∷ bs) =
 -- the rows that go by the line's number, length and end
 abbrev pub fault_of_text : ℕ → TextLine → Option TraceFault
 fault_of_text number text =
-    if nat_lt 65540 number then Some (fault.TooManyLines number)
-    else if nat_lt 600 (length text.bytes) then Some (fault.LineTooLong number)
+    if nat_lt most_lines number then Some (fault.TooManyLines number)
+    else if nat_lt most_line_bytes (length text.bytes) then Some (fault.LineTooLong number)
     else if not text.ended then Some (fault.NoFinalNewline number)
     else None
 
@@ -177,7 +195,7 @@ fault_of_deed number trees deed =
 abbrev pub fault_of_turn : ℕ → List Line → ℕ → Option TraceFault
 fault_of_turn number before txn =
     if has_ended txn before then Some (fault.AfterEnd number)
-    else if not (has_begun txn before) && nat_le 1024 (length (txns_of before)) then Some (fault.TooManyTxns number)
+    else if not (has_begun txn before) && nat_le most_txns (length (txns_of before)) then Some (fault.TooManyTxns number)
     else None
 
 -- the rows of a body line, behind these lines
