@@ -4,7 +4,7 @@ use Rattle.std.specs.Prelude.{IsTrue}
 use Rattle.lt_ranges.specs.declared.key.Key.{Key}
 use Rattle.lt_ranges.specs.Key.{key_le, key_max}
 use Rattle.lt_ranges.proofs.KeyLaws.{le_itself, le_trans, le_total}
-use Rattle.lt_ranges.specs.Interval.{Interval, IsInterval, has, overlap, before, covers, hull, ShareKey, HasAllOf, OverlapsByKeys, CoversByKeys, IsLeastOver}
+use Rattle.lt_ranges.specs.Interval.{Interval, IsInterval, has, overlap, before, covers, hull, ShareKey, OverlapsByKeys, CoversByKeys, IsLeastOver}
 
 -- the hull of two ranges is a range
 pub hull_ordered : (a b : Interval) → IsInterval a → IsInterval b → IsInterval (hull a b)
