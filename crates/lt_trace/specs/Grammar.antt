@@ -119,29 +119,36 @@ Forms version text None = (line : Line) → IsForm version line → text ≢ lin
 
 -- Faults.
 
+-- the tree and the range that a deed names
+abbrev pub tree_in : LineDeed → Option ℕ
+tree_in (Try tree range) = Some tree
+tree_in (Lock tree range) = Some tree
+tree_in End = None
+tree_in Abort = None
+tree_in (Escalate tree) = Some tree
+tree_in Big = None
+
+abbrev pub range_in : LineDeed → Option Interval
+range_in (Try tree range) = Some range
+range_in (Lock tree range) = Some range
+range_in End = None
+range_in Abort = None
+range_in (Escalate tree) = None
+range_in Big = None
+
+-- there is one, and it is such
+abbrev pub is_some_with : {T : Type 0} → (T → Bool) → Option T → Bool
+is_some_with is_such None = false
+is_some_with is_such (Some x) = is_such x
+
 abbrev pub is_outside : ℕ → LineDeed → Bool
-is_outside trees (Try tree range) = nat_le trees tree
-is_outside trees (Lock tree range) = nat_le trees tree
-is_outside trees End = false
-is_outside trees Abort = false
-is_outside trees (Escalate tree) = nat_le trees tree
-is_outside trees Big = false
+is_outside trees deed = is_some_with (λ tree. nat_le trees tree) (tree_in deed)
 
 abbrev pub has_long_key : LineDeed → Bool
-has_long_key (Try tree range) = is_long range.left || is_long range.right
-has_long_key (Lock tree range) = is_long range.left || is_long range.right
-has_long_key End = false
-has_long_key Abort = false
-has_long_key (Escalate tree) = false
-has_long_key Big = false
+has_long_key deed = is_some_with (λ range. is_long range.left || is_long range.right) (range_in deed)
 
 abbrev pub is_backwards : LineDeed → Bool
-is_backwards (Try tree range) = not (key_le range.left range.right)
-is_backwards (Lock tree range) = not (key_le range.left range.right)
-is_backwards End = false
-is_backwards Abort = false
-is_backwards (Escalate tree) = false
-is_backwards Big = false
+is_backwards deed = is_some_with (λ range. not (key_le range.left range.right)) (range_in deed)
 
 abbrev pub is_last : LineDeed → Bool
 is_last (Try tree range) = false
