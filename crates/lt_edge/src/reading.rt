@@ -10,8 +10,10 @@ use thiserror::Error;
 /// Why not all was read.
 #[derive(Clone, Copy, Debug, PartialEq, Eq, Error)]
 pub enum ReadFault {
+    /// The bytes that were read found no room.
     #[error("out of memory")]
     OutOfMemory,
+    /// A call of the source failed.
     #[error("the input failed")]
     Failed,
 }

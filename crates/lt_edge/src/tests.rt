@@ -29,7 +29,7 @@ fn reading_goes_on_after_a_fault(rt: HostRuntime) -> Result<(), Fail> {
 }
 
 #[test]
-fn each_put_is_lent_all_that_is_left(rt: HostRuntime) -> Result<(), Fail> {
+fn putting_stops_at_a_fault(rt: HostRuntime) -> Result<(), Fail> {
     let alloc = rt.alloc();
     let mut sink = MemSink::new(alloc, 100, 8, vec![in alloc; 2u64]?)?;
     assert_eq!(rt;
@@ -37,6 +37,19 @@ fn each_put_is_lent_all_that_is_left(rt: HostRuntime) -> Result<(), Fail> {
         Err(Failed)
     );
     assert_eq!(rt; sink.bytes(), b"two pieces of ei".as_slice());
+    Ok(())
+}
+
+// The sink takes all of the text in as many calls as come before the one that fails, if each is lent all that is left.
+#[test]
+fn each_put_is_lent_all_that_is_left(rt: HostRuntime) -> Result<(), Fail> {
+    let alloc = rt.alloc();
+    let text = b"two pieces of eight, and more";
+    for (piece, failing) in [(29, 1u64), (15, 2)] {
+        let mut sink = MemSink::new(alloc, 100, piece, vec![in alloc; failing]?)?;
+        assert_eq!(rt; put_all(&mut sink, text), Ok(()));
+        assert_eq!(rt; sink.bytes(), text.as_slice());
+    }
     Ok(())
 }
 

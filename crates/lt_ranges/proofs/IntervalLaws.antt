@@ -1,8 +1,10 @@
 -- Laws of ranges.
 use Rattle.std.proofs.Common.{◌≡◌, true, false, arith}
-use Rattle.lt_ranges.specs.Key.{key_le}
+use Rattle.std.specs.Prelude.{IsTrue}
+use Rattle.lt_ranges.specs.declared.key.Key.{Key}
+use Rattle.lt_ranges.specs.Key.{key_le, key_max}
 use Rattle.lt_ranges.proofs.KeyLaws.{le_itself, le_trans, le_total}
-use Rattle.lt_ranges.specs.Interval.{Interval, IsInterval, overlap, before, covers, hull}
+use Rattle.lt_ranges.specs.Interval.{Interval, IsInterval, has, overlap, before, covers, hull, ShareKey, OverlapsByKeys, CoversByKeys, IsLeastOver}
 
 -- the hull of two ranges is a range
 pub hull_ordered : (a b : Interval) → IsInterval a → IsInterval b → IsInterval (hull a b)
@@ -50,3 +52,31 @@ apart_right a b o h k = grind (arith, le_total, le_trans b.left a.left a.right)
 -- a range overlaps itself
 pub overlap_itself : (a : Interval) → IsInterval a → overlap a a ≡ true
 overlap_itself a h = grind arith
+
+-- ranges overlap where some key is in both: the greater of the left ends is one
+pub overlap_by_keys : (a b : Interval) → IsInterval a → IsInterval b → OverlapsByKeys a b
+overlap_by_keys a b h k = (shared, λ s. meets s.0 s.1 s.2)
+  where
+    shared : IsTrue (overlap a b) → ShareKey a b
+    shared o = (key_max a.left b.left, grind (arith, le_total, le_itself), grind (arith, le_total, le_itself))
+
+    meets : (key : Key) → IsTrue (has a key) → IsTrue (has b key) → IsTrue (overlap a b)
+    meets key p q = grind (arith, le_trans a.left key b.right, le_trans b.left key a.right)
+
+-- a range covers another where it has every key of the other, its ends among them
+pub covers_by_keys : (a b : Interval) → IsInterval b → CoversByKeys a b
+covers_by_keys a b h = (λ c key p. every c key p, λ all. covered (all b.left (grind (arith, le_itself))) (all b.right (grind (arith, le_itself))))
+  where
+    every : IsTrue (covers a b) → (key : Key) → IsTrue (has b key) → IsTrue (has a key)
+    every c key p = grind (arith, le_trans a.left b.left key, le_trans key b.right a.right)
+
+    covered : IsTrue (has a b.left) → IsTrue (has a b.right) → IsTrue (covers a b)
+    covered p q = grind arith
+
+-- the hull is the least range over both
+pub hull_least : (a b : Interval) → IsLeastOver a b (hull a b)
+hull_least a b = record {
+  over_first = covers_hull_left a b;
+  over_second = covers_hull_right a b;
+  least = λ c p q. grind arith;
+}

@@ -20,6 +20,7 @@ fn keys_in_order_and_their_texts(rt: HostRuntime) {
         b"-".as_slice(),
         b"\"\"",
         b"\"\\x00\\xff\"",
+        b"\"\\x1f\"",
         b"\" \"",
         b"\"a\\x22\\x5c\"",
         b"\"abc\"",
@@ -27,6 +28,8 @@ fn keys_in_order_and_their_texts(rt: HostRuntime) {
         b"\"abc\"*",
         b"\"abd\"",
         b"\"zzz\"",
+        b"\"~\"",
+        b"\"\\x7f\"",
         b"\"\"*",
         b"+",
     ];
@@ -49,6 +52,8 @@ fn keys_in_order_and_their_texts(rt: HostRuntime) {
 fn texts_of_no_key_are_refused(rt: HostRuntime) {
     let refused = [
         (b"\"\\x61\"".as_slice(), TextFault::NotText),
+        (b"\"\\x7e\"", TextFault::NotText),
+        (b"\"\x7f\"", TextFault::NotText),
         (b"\"\\xFF\"", TextFault::NotText),
         (b"\"a\"b\"", TextFault::NotText),
         (b"\"", TextFault::NotText),
@@ -56,6 +61,10 @@ fn texts_of_no_key_are_refused(rt: HostRuntime) {
         (b"-*", TextFault::NotText),
         (&LONG_TEXT[..65], TextFault::NotText),
         (&LONG_TEXT, TextFault::TooLong),
+        (
+            b"\"aaaaaaaaaaaaaaaaaaaaaaaaaaaaaaaaaaaaaaaaaaaaaaaaaaaaaaaaaaaaaaaa\\x61\"",
+            TextFault::NotText,
+        ),
     ];
     for (text, fault) in refused {
         assert_eq!(rt; Key::read(text), Err(fault), "{text:?}");

@@ -9,7 +9,7 @@ use Rattle.lt_trace.specs.declared.fault.TraceFault.{TraceFault}
 use Rattle.lt_trace.specs.declared.fault.TraceFault.TheVariants as fault
 use Rattle.lt_trace.specs.declared.line.Line.{Line}
 use Rattle.lt_trace.specs.Trace.{TraceView}
-use Rattle.lt_trace.specs.Grammar.{HeaderForm, header_forms, header_line, next_form, TextLine, first_line, fault_of_text, fault_of_form, fault_of_deed, fault_of_turn, version_in, trees_in, line_text, Forms, IsFaultless, Front, front_text, whole, Spells, IsNoHeader, IsFirst, IsHeaderFault, IsBodyFault, HasFault, IsFirstFault}
+use Rattle.lt_trace.specs.Grammar.{most_line_bytes, most_lines, HeaderForm, header_forms, header_line, next_form, TextLine, first_line, fault_of_text, fault_of_form, fault_of_deed, fault_of_turn, version_in, trees_in, line_text, Forms, IsFaultless, Front, front_text, whole, Spells, IsNoHeader, IsFirst, IsHeaderFault, IsBodyFault, HasFault, IsFirstFault}
 use Rattle.lt_trace.proofs.CutLaws.{first_line_cut}
 use Rattle.lt_trace.proofs.FormLaws.{line_once, line_lacks}
 use Rattle.lt_trace.proofs.FrontLaws.{IsPlain, plain_forms, header_lacks, GoesOn, front_split}
@@ -27,9 +27,9 @@ next_length (f ∷ forms) [] form next = omega arith
 next_length (f ∷ forms) (n ∷ ns) form next = let h = next_length forms ns form next in omega arith
 
 -- the rows that go by the text find nothing in a short line with a newline
-fine_text : (number : ℕ) (text : List ℕ) → number ≤ 65540 → length text ≤ 600 → fault_of_text number (record { bytes = text; ended = true }) ≡ None
+fine_text : (number : ℕ) (text : List ℕ) → number ≤ most_lines → length text ≤ most_line_bytes → fault_of_text number (record { bytes = text; ended = true }) ≡ None
 fine_text number text low short =
-    by_case (nat_lt 65540 number) (nat_lt 600 (length text)) (grind (arith, nat_tests)) (grind (arith, nat_tests))
+    by_case (nat_lt most_lines number) (nat_lt most_line_bytes (length text)) (grind (arith, nat_tests)) (grind (arith, nat_tests))
   where
     by_case : (high long : Bool) → high ≡ false → long ≡ false → cond high (Some (fault.TooManyLines number)) (cond long (Some (fault.LineTooLong number)) None) ≡ None
     by_case high long not_high not_long = rw (not_high, not_long) refl
@@ -38,7 +38,7 @@ fine_text number text low short =
 otherwise : (found : Option TraceFault) (Else : TraceFault → Type 0) (f : TraceFault) → found ≡ None → IsFirst found Else f → Else f
 otherwise found Else f none is = subst (λ o. IsFirst o Else f) none is
 
-header_line_short : (form : HeaderForm) (n : ℕ) → IsPlain form → n ≤ form.most → length (header_line form n) ≤ 600
+header_line_short : (form : HeaderForm) (n : ℕ) → IsPlain form → n ≤ form.most → length (header_line form n) ≤ most_line_bytes
 header_line_short form n plain most =
     let small : n < 10 ^ 6 = let h = plain.small in omega arith in
     let digits = length-decimal-le 6 n (lit< tt) small (omega arith) in

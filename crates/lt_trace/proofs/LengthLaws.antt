@@ -8,13 +8,13 @@ use Rattle.lt_trace.specs.declared.fault.TraceFault.{TraceFault}
 use Rattle.lt_trace.specs.declared.fault.TraceFault.TheVariants as fault
 use Rattle.lt_trace.specs.declared.line.Line.{Line}
 use Rattle.lt_trace.specs.Trace.{TraceView}
-use Rattle.lt_trace.specs.Grammar.{HeaderForm, header_forms, header_line, header_text, AreInForm, next_form, TextLine, first_line, fault_of_text, fault_of_form, version_in, trees_in, line_text, Forms, AreFaultless, IsBody, Front, IsFront, front_text, whole, Spells, IsNoHeader, IsFirst, IsHeaderFault, IsBodyFault, HasFault, IsFirstFault}
+use Rattle.lt_trace.specs.Grammar.{most_bytes, most_line_bytes, most_lines, HeaderForm, header_forms, header_line, header_text, AreInForm, next_form, TextLine, first_line, fault_of_text, fault_of_form, version_in, trees_in, line_text, Forms, AreFaultless, IsBody, Front, IsFront, front_text, whole, Spells, IsNoHeader, IsFirst, IsHeaderFault, IsBodyFault, HasFault, IsFirstFault}
 use Rattle.lt_trace.proofs.FrontLaws.{IsPlain, plain_forms, no_body}
 
 -- How long a front is.
 
 -- a line without a fault has a number and a length in range
-text_fits : (number : ℕ) (bytes : List ℕ) → fault_of_text number (record { bytes = bytes; ended = true }) ≡ None → (number ≤ 65540) × (length bytes ≤ 600)
+text_fits : (number : ℕ) (bytes : List ℕ) → fault_of_text number (record { bytes = bytes; ended = true }) ≡ None → (number ≤ most_lines) × (length bytes ≤ most_line_bytes)
 text_fits number bytes e = grind (arith, nat_tests)
 
 abbrev ended_line : Line → List ℕ
@@ -91,17 +91,17 @@ line_grows (b ∷ bs) more unended = by_case (eqb b 10) (first_line bs) (first_l
     by_case true l m unended rest = cc
     by_case false l m unended rest = let both = rest unended in (omega (arith, both.0), omega (arith, both.1))
 
-high_text : (number : ℕ) (text : TextLine) → 65540 < number → fault_of_text number text ≡ Some (fault.TooManyLines number)
+high_text : (number : ℕ) (text : TextLine) → most_lines < number → fault_of_text number text ≡ Some (fault.TooManyLines number)
 high_text number text high = grind (arith, nat_tests)
 
-long_text : (number : ℕ) (text : TextLine) → number ≤ 65540 → 600 < length text.bytes → fault_of_text number text ≡ Some (fault.LineTooLong number)
+long_text : (number : ℕ) (text : TextLine) → number ≤ most_lines → most_line_bytes < length text.bytes → fault_of_text number text ≡ Some (fault.LineTooLong number)
 long_text number text low long = grind (arith, nat_tests)
 
 -- what is known of the first line of a text, and of that of a longer text that begins so
 Decided : ℕ → TextLine → TextLine → Type 0
 Decided number text longer = (longer ≡ text) ⊎ ((f : TraceFault) × (fault_of_text number text ≡ Some f) × (fault_of_text number longer ≡ Some f))
 
-open_decided : (number : ℕ) (rest more : List ℕ) → (number ≤ 65540 → 600 < length rest) → (first_line rest).ended ≡ false → Decided number (first_line rest) (first_line (rest ++ more))
+open_decided : (number : ℕ) (rest more : List ℕ) → (number ≤ most_lines → most_line_bytes < length rest) → (first_line rest).ended ≡ false → Decided number (first_line rest) (first_line (rest ++ more))
 unfolding Decided
 open_decided number rest more long unended =
     let grown = line_grows rest more unended in
@@ -112,9 +112,9 @@ open_decided number rest more long unended =
       long_text number (first_line rest) low (let h = long low in omega (arith, grown.0)),
       long_text number (first_line (rest ++ more)) low (let h = long low in omega (arith, grown.1)),
     ))
-    (cases_lt 65540 number)
+    (cases_lt most_lines number)
 
-decided : (number : ℕ) (rest more : List ℕ) → (number ≤ 65540 → 600 < length rest) → Decided number (first_line rest) (first_line (rest ++ more))
+decided : (number : ℕ) (rest more : List ℕ) → (number ≤ most_lines → most_line_bytes < length rest) → Decided number (first_line rest) (first_line (rest ++ more))
 unfolding Decided
 decided number rest more long = by_case (first_line rest).ended refl
   where
@@ -129,19 +129,19 @@ first_decided number Else text longer f (inr found) is =
     let named : f ≡ found.0 = subst (λ o. IsFirst o (Else text) f) found.1 is in
     subst (λ o. IsFirst o (Else longer) f) (sym found.2) named
 
-header_decided : (form : HeaderForm) (number : ℕ) (rest more : List ℕ) (f : TraceFault) → 600 < length rest → IsHeaderFault form number rest f → IsHeaderFault form number (rest ++ more) f
+header_decided : (form : HeaderForm) (number : ℕ) (rest more : List ℕ) (f : TraceFault) → most_line_bytes < length rest → IsHeaderFault form number rest f → IsHeaderFault form number (rest ++ more) f
 header_decided form number [] more f long is = absurd (omega arith)
 header_decided form number (b ∷ bs) more f long is =
     first_decided number (λ t g. IsNoHeader form t.bytes × (g ≡ fault.BadHeader number)) (first_line (b ∷ bs)) (first_line (b ∷ bs ++ more)) f (decided number (b ∷ bs) more (λ _. long)) is
 
-body_decided : (header : List ℕ) (before : List Line) (rest more : List ℕ) (f : TraceFault) → (5 + length before ≤ 65540 → 600 < length rest) → IsBodyFault header before rest f → IsBodyFault header before (rest ++ more) f
+body_decided : (header : List ℕ) (before : List Line) (rest more : List ℕ) (f : TraceFault) → (5 + length before ≤ most_lines → most_line_bytes < length rest) → IsBodyFault header before rest f → IsBodyFault header before (rest ++ more) f
 body_decided header before [] more f long is = absurd is
 body_decided header before (b ∷ bs) more f long is =
     let number = 5 + length before in
     first_decided number (λ t g. (form : Option Line) × Forms (version_in header) t.bytes form × (fault_of_form number (trees_in header) before form ≡ Some g))
     (first_line (b ∷ bs)) (first_line (b ∷ bs ++ more)) f (decided number (b ∷ bs) more long) is
 
-there_decided : (next : Option HeaderForm) (front : Front) (rest more : List ℕ) (f : TraceFault) → IsFront front → next_form header_forms front.header ≡ next → 39389541 ≤ length (front_text front) + length rest → HasFault next front rest f → HasFault next front (rest ++ more) f
+there_decided : (next : Option HeaderForm) (front : Front) (rest more : List ℕ) (f : TraceFault) → IsFront front → next_form header_forms front.header ≡ next → most_bytes ≤ length (front_text front) + length rest → HasFault next front rest f → HasFault next front (rest ++ more) f
 there_decided (Some form) front rest more f is next long wrong =
     let none = no_body front.header front.lines form is.body next in
     let few = ap (length {A = Line}) none in
@@ -151,7 +151,7 @@ there_decided None front rest more f is next long wrong =
     let fits = front_fits front is in
     body_decided front.header front.lines rest more f (λ low. omega (arith, fits.0)) wrong
 
-pub first_bytes_decide : (bytes more : List ℕ) (f : TraceFault) → 39389541 ≤ length bytes → IsFirstFault bytes f → IsFirstFault (bytes ++ more) f
+pub first_bytes_decide : (bytes more : List ℕ) (f : TraceFault) → most_bytes ≤ length bytes → IsFirstFault bytes f → IsFirstFault (bytes ++ more) f
 first_bytes_decide bytes more f long refused =
     let front = refused.0 in
     let rest = refused.1 in (
@@ -162,7 +162,7 @@ first_bytes_decide bytes more f long refused =
       there_decided (next_form header_forms front.header) front rest more f refused.2 refl (omega (arith, ap length refused.3, length-append (front_text front) rest)) refused.4,
     )
 
-pub traces_are_short : (bytes : List ℕ) (trace : TraceView) → Spells bytes trace → length bytes < 39389541
+pub traces_are_short : (bytes : List ℕ) (trace : TraceView) → Spells bytes trace → length bytes < most_bytes
 traces_are_short bytes trace spelled =
     let fits = front_fits (whole trace) spelled.0 in
     omega (arith, ap length spelled.1, fits.0, fits.1)

@@ -15,6 +15,24 @@ use Rattle.lt_trace.specs.declared.fault.TraceFault.{TraceFault}
 use Rattle.lt_trace.specs.declared.fault.TraceFault.TheVariants as fault
 use Rattle.lt_trace.specs.Trace.{TraceView}
 
+-- Limits.
+
+-- of a trace, its header's four lines among them
+abbrev pub most_lines : ℕ
+most_lines = 65540
+
+-- of a line, without its newline
+abbrev pub most_line_bytes : ℕ
+most_line_bytes = 600
+
+-- of what is to be read of a text: one more than that many lines of that many bytes, each with a newline
+abbrev pub most_bytes : ℕ
+most_bytes = 39389541
+
+-- of the transactions that have lines
+abbrev pub most_txns : ℕ
+most_txns = 1024
+
 -- Numbers.
 
 -- the text is the decimal spelling of n, which lies between the two
@@ -101,29 +119,36 @@ Forms version text None = (line : Line) → IsForm version line → text ≢ lin
 
 -- Faults.
 
+-- the tree and the range that a deed names
+abbrev pub tree_in : LineDeed → Option ℕ
+tree_in (Try tree range) = Some tree
+tree_in (Lock tree range) = Some tree
+tree_in End = None
+tree_in Abort = None
+tree_in (Escalate tree) = Some tree
+tree_in Big = None
+
+abbrev pub range_in : LineDeed → Option Interval
+range_in (Try tree range) = Some range
+range_in (Lock tree range) = Some range
+range_in End = None
+range_in Abort = None
+range_in (Escalate tree) = None
+range_in Big = None
+
+-- there is one, and it is such
+abbrev pub is_some_with : {T : Type 0} → (T → Bool) → Option T → Bool
+is_some_with is_such None = false
+is_some_with is_such (Some x) = is_such x
+
 abbrev pub is_outside : ℕ → LineDeed → Bool
-is_outside trees (Try tree range) = nat_le trees tree
-is_outside trees (Lock tree range) = nat_le trees tree
-is_outside trees End = false
-is_outside trees Abort = false
-is_outside trees (Escalate tree) = nat_le trees tree
-is_outside trees Big = false
+is_outside trees deed = is_some_with (λ tree. nat_le trees tree) (tree_in deed)
 
 abbrev pub has_long_key : LineDeed → Bool
-has_long_key (Try tree range) = is_long range.left || is_long range.right
-has_long_key (Lock tree range) = is_long range.left || is_long range.right
-has_long_key End = false
-has_long_key Abort = false
-has_long_key (Escalate tree) = false
-has_long_key Big = false
+has_long_key deed = is_some_with (λ range. is_long range.left || is_long range.right) (range_in deed)
 
 abbrev pub is_backwards : LineDeed → Bool
-is_backwards (Try tree range) = not (key_le range.left range.right)
-is_backwards (Lock tree range) = not (key_le range.left range.right)
-is_backwards End = false
-is_backwards Abort = false
-is_backwards (Escalate tree) = false
-is_backwards Big = false
+is_backwards deed = is_some_with (λ range. not (key_le range.left range.right)) (range_in deed)
 
 abbrev pub is_last : LineDeed → Bool
 is_last (Try tree range) = false
@@ -160,8 +185,8 @@ first_line (b ∷ bs) =
 -- the rows that go by the line's number, length and end
 abbrev pub fault_of_text : ℕ → TextLine → Option TraceFault
 fault_of_text number text =
-    if nat_lt 65540 number then Some (fault.TooManyLines number)
-    else if nat_lt 600 (length text.bytes) then Some (fault.LineTooLong number)
+    if nat_lt most_lines number then Some (fault.TooManyLines number)
+    else if nat_lt most_line_bytes (length text.bytes) then Some (fault.LineTooLong number)
     else if not text.ended then Some (fault.NoFinalNewline number)
     else None
 
@@ -177,7 +202,7 @@ fault_of_deed number trees deed =
 abbrev pub fault_of_turn : ℕ → List Line → ℕ → Option TraceFault
 fault_of_turn number before txn =
     if has_ended txn before then Some (fault.AfterEnd number)
-    else if not (has_begun txn before) && nat_le 1024 (length (txns_of before)) then Some (fault.TooManyTxns number)
+    else if not (has_begun txn before) && nat_le most_txns (length (txns_of before)) then Some (fault.TooManyTxns number)
     else None
 
 -- the rows of a body line, behind these lines

@@ -3,11 +3,11 @@ ghost use Rattle.std.specs.Prelude.{◌≡◌, ℕ, List, ◌++◌, ◌∷◌, M
 ghost use Rattle.lt_trace.specs.Cut.{Lacks};
 
 /// What stands before the first such byte, and what behind it.
-pub(crate) fn cut(text: &[u8], at: u8) -> Option<(&[u8], &[u8])>
-    ensures { MatchOption result (Lacks at text.now) (λ parts. Lacks at parts.0.now × (text.now ≡ parts.0.now ++ at ∷ parts.1.now)) }
+pub(crate) fn cut(text: &[u8], byte: u8) -> Option<(&[u8], &[u8])>
+    ensures { MatchOption result (Lacks byte text.now) (λ parts. Lacks byte parts.0.now × (text.now ≡ parts.0.now ++ byte ∷ parts.1.now)) }
 {
-    for (i, byte) in text.iter().enumerate() {
-        if *byte == at {
+    for (i, other) in text.iter().enumerate() {
+        if *other == byte {
             return Some((&text[..i], &text[i + 1..]));
         }
     }

@@ -4,7 +4,7 @@ ghost use Rattle.lt_trace.specs.declared.fault.TraceFault.{TraceFault};
 ghost use Rattle.lt_trace.specs.declared.line.Line.{Line};
 ghost use Rattle.lt_trace.specs.FaultRows.{FaultRows};
 ghost use Rattle.lt_trace.specs.Trace.{TraceView};
-ghost use Rattle.lt_trace.specs.Grammar.{Front, IsFront, IsFaultless, IsFirstFault, Spells, header_forms};
+ghost use Rattle.lt_trace.specs.Grammar.{most_bytes, Front, IsFront, IsFaultless, IsFirstFault, Spells, header_forms};
 
 /// Worked refusals come out so.
 pub fn fault_rows()
@@ -33,6 +33,6 @@ pub fn one_fault()
 
 /// No trace is longer than 39,389,540 bytes, and of a longer text the first 39,389,541 bytes decide.
 pub fn first_bytes_decide()
-    ensures trace { (bytes : List ℕ) (trace : TraceView) → Spells bytes trace → length bytes < 39389541 }
-    ensures fault { (bytes more : List ℕ) (fault : TraceFault) → 39389541 ≤ length bytes → IsFirstFault bytes fault → IsFirstFault (bytes ++ more) fault }
+    ensures trace { (bytes : List ℕ) (trace : TraceView) → Spells bytes trace → length bytes < most_bytes }
+    ensures fault { (bytes more : List ℕ) (fault : TraceFault) → most_bytes ≤ length bytes → IsFirstFault bytes fault → IsFirstFault (bytes ++ more) fault }
 {}

@@ -5,7 +5,7 @@ mod body;
 mod body_line;
 mod cut;
 pub mod fault;
-pub mod form;
+mod form;
 mod header;
 mod key_words;
 pub mod laws;
@@ -16,10 +16,13 @@ mod text_line;
 pub mod trace;
 mod writing;
 
+pub use body_line::MOST_TXNS;
 pub use fault::TraceFault;
+pub use form::MOST_NUMBER;
 pub use line::{Line, LineDeed};
 pub use numbers::number;
 pub use reading::read;
+pub use text_line::{MOST_LINE_BYTES, MOST_LINES};
 pub use trace::Trace;
 pub use writing::write;
 

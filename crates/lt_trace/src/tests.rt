@@ -141,6 +141,16 @@ fn what_is_read_is_written_again(rt: HostRuntime) -> Result<(), Fail> {
 }
 
 #[test]
+fn a_text_of_version_1_is_written_again(rt: HostRuntime) -> Result<(), Fail> {
+    let text =
+        b"rangelock 1\ntrees 16\nlimit 65536\nbuffer 0\n1 try 15 - \"a\\x00\"\n30 try 0 \"b c\" +\n1 end\n";
+    let trace = read(rt.alloc(), text)?;
+    let written = write(rt.alloc(), &trace)?;
+    assert_eq!(rt; written.as_slice(), text.as_slice());
+    Ok(())
+}
+
+#[test]
 fn limits_are_met(rt: HostRuntime) -> Result<(), Fail> {
     let mut text = behind(rt.alloc(), HEADER, &[b'x'; 600])?;
     assert_eq!(rt; fault(rt.alloc(), &text), Some(NoFinalNewline { line: 5 }));
@@ -152,6 +162,7 @@ fn limits_are_met(rt: HostRuntime) -> Result<(), Fail> {
         let line = format!(in rt.alloc(); "{txn} try 0 - +\n")?;
         many.extend_from_slice(line.as_bytes())?;
     }
+    assert_eq!(rt; read(rt.alloc(), &many)?.lines().len(), 1_024);
     many.extend_from_slice(b"1025 end\n")?;
     assert_eq!(rt; fault(rt.alloc(), &many), Some(TooManyTxns { line: 1_029 }));
 
@@ -159,6 +170,7 @@ fn limits_are_met(rt: HostRuntime) -> Result<(), Fail> {
     for _ in 0..65_536u32 {
         long.extend_from_slice(b"1 try 0 \"a\" \"b\"\n")?;
     }
+    assert_eq!(rt; read(rt.alloc(), &long)?.lines().len(), 65_536);
     long.extend_from_slice(b"1 end\n")?;
     assert_eq!(rt;
         fault(rt.alloc(), &long),
