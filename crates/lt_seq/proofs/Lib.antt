@@ -8,3 +8,4 @@ pub mod NumbersLaws
 pub mod SeqLaws
 pub mod RefusalLaws
 pub mod JoinLaws
+pub mod LocksLaws
