@@ -9,3 +9,4 @@ pub mod SeqLaws
 pub mod RefusalLaws
 pub mod JoinLaws
 pub mod LocksLaws
+pub mod PassesLaws

@@ -1,10 +1,11 @@
 -- Lists of passes, and what a yard leaves.
-use Rattle.std.specs.Prelude.{◌≡◌, ℕ, zero, suc, ◌+◌, List, [], ◌∷◌, ◌++◌, length, map}
+use Rattle.std.specs.Prelude.{◌≡◌, ℕ, zero, suc, ◌+◌, ◌≤◌, List, [], ◌∷◌, ◌++◌, length, map, sum_by}
+use Rattle.std.specs.List.{All, Any}
 use Rattle.lt_seq.specs.declared.event.Event.{Event}
 use Rattle.lt_seq.specs.declared.event.Held.{Held}
 use Rattle.lt_seq.specs.declared.yard.Closed.{Closed}
 use Rattle.lt_seq.specs.Table.{Setting, TreeState, used}
-use Rattle.lt_seq.specs.History.{after, calls_from}
+use Rattle.lt_seq.specs.History.{after, calls_from, IsFront}
 use Rattle.lt_seq.specs.Yard.{PassView}
 
 -- count numbers from this one on
@@ -19,6 +20,15 @@ opening_view number rights = record { number = number; rights = rights; met = 0;
 abbrev pub opening_passes : ℕ → List PassView
 opening_passes zero = []
 opening_passes (suc more) = opening_view 0 (suc more) ∷ map (λ n. opening_view n 0) (numbers_from 1 more)
+
+-- The rights of a table and what its passes have seen of its history.
+pub record RightsAndFronts (setting : Setting) (history : List Event) (views : List PassView) : Type 0 where
+  -- the passes have as many rights together as there are passes
+  pub rights : sum_by (λ p. p.rights) views ≡ setting.plan.passes
+  -- what each has seen is a front of the history
+  pub fronts : All (λ p. IsFront p.front history) views
+  -- and one that has a right has seen all of it
+  pub whole : Any (λ p. (1 ≤ p.rights) × (p.front ≡ history)) views
 
 -- the first pass has all the rights
 abbrev pub FirstHasAll : Setting → List PassView → Type 0

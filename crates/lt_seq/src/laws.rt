@@ -1,6 +1,6 @@
 //! Laws of the table.
 ghost use Rattle.std.specs.Prelude.{◌≡◌, ◌≢◌, ℕ, ◌+◌, ◌^◌, ◌<◌, ◌≤◌, ◌==◌, ◌&&◌, List, [], ◌∷◌, ◌++◌, length, take, Result, true};
-ghost use Rattle.std.specs.List.{list_any};
+ghost use Rattle.std.specs.List.{list_any, Contains};
 ghost use Rattle.std.specs.List.Sorted.{IsStrictlyIncreasing};
 ghost use Rattle.lt_ranges.specs.declared.key.Key.{Key};
 ghost use Rattle.lt_ranges.specs.Interval.{Interval};
@@ -20,6 +20,7 @@ ghost use Rattle.lt_seq.specs.Rows.{WorkedRows};
 ghost use Rattle.lt_seq.specs.Table.{Setting, TreeState, opening, step, tree_at, used};
 ghost use Rattle.lt_seq.specs.History.{after, IsLegal, IsNext, calls_from};
 ghost use Rattle.lt_seq.specs.Yard.{PassView, HasAll, Answers, AskAnswers, place_after};
+ghost use Rattle.lt_seq.specs.Passes.{RightsAndFronts, opening_passes};
 ghost use Rattle.lt_seq.specs.Alone.{AloneAnswers, AloneAskAnswers, IsDone};
 
 /// The worked rows come out so.
@@ -67,6 +68,13 @@ pub fn joined_keeps()
 /// the other owners that overlap, and a join takes no held key away and gives none that another holds.
 pub fn legal_histories_keep_locks()
     ensures { (setting : Setting) (history : List Event) → IsLegal setting history → KeepsLocks setting history }
+{}
+
+/// The passes of a table share its rights, and each has seen a front of its history. It is so of a fresh table; and
+/// wherever it is so, a pass that has all the rights has seen the whole history.
+pub fn rights_and_fronts()
+    ensures opening { (setting : Setting) → 1 ≤ setting.plan.passes → RightsAndFronts setting [] (opening_passes setting.plan.passes) }
+    ensures whole { (setting : Setting) (history : List Event) (views : List PassView) (view : PassView) → RightsAndFronts setting history views → Contains views view → HasAll setting view → view.front ≡ history }
 {}
 
 /// The answers to a pass that has all the rights, in any yard: one event more, at once, or want of memory, or a full
