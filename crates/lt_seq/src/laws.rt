@@ -1,5 +1,5 @@
 //! Laws of the table.
-ghost use Rattle.std.specs.Prelude.{◌≡◌, ◌≢◌, ℕ, ◌+◌, ◌^◌, ◌<◌, ◌≤◌, ◌==◌, ◌&&◌, List, [], ◌∷◌, ◌++◌, length, take, Result, true};
+ghost use Rattle.std.specs.Prelude.{◌≡◌, ◌≢◌, ℕ, ◌+◌, ◌^◌, ◌<◌, ◌≤◌, ◌==◌, ◌&&◌, List, [], ◌∷◌, ◌++◌, length, take, map, Result, true};
 ghost use Rattle.std.specs.List.{list_any, Contains};
 ghost use Rattle.std.specs.List.Sorted.{IsStrictlyIncreasing};
 ghost use Rattle.lt_ranges.specs.declared.key.Key.{Key};
@@ -20,7 +20,8 @@ ghost use Rattle.lt_seq.specs.Rows.{WorkedRows};
 ghost use Rattle.lt_seq.specs.Table.{Setting, TreeState, opening, step, tree_at, used};
 ghost use Rattle.lt_seq.specs.History.{after, IsLegal, IsNext, calls_from};
 ghost use Rattle.lt_seq.specs.Yard.{PassView, HasAll, Answers, AskAnswers, place_after};
-ghost use Rattle.lt_seq.specs.Passes.{RightsAndFronts, opening_passes};
+ghost use Rattle.lt_seq.specs.Passes.{RightsAndFronts, opening_passes, IsInOneList};
+ghost use Rattle.lt_seq.specs.Questions.{all_receipts};
 ghost use Rattle.lt_seq.specs.Alone.{AloneAnswers, AloneAskAnswers, IsDone};
 
 /// The worked rows come out so.
@@ -75,6 +76,14 @@ pub fn legal_histories_keep_locks()
 pub fn rights_and_fronts()
     ensures opening { (setting : Setting) → 1 ≤ setting.plan.passes → RightsAndFronts setting [] (opening_passes setting.plan.passes) }
     ensures whole { (setting : Setting) (history : List Event) (views : List PassView) (view : PassView) → RightsAndFronts setting history views → Contains views view → HasAll setting view → view.front ≡ history }
+{}
+
+/// In a legal history each receipt stands in the list of its own pass, and in no other. The lists have no other
+/// receipts, and each is in the order of the places, so that it has none twice.
+pub fn lists_of_passes()
+    ensures each { (setting : Setting) (history : List Event) (receipt : Receipt) → IsLegal setting history → Contains (all_receipts setting.plan.first history) receipt → IsInOneList setting history receipt }
+    ensures all { (place pass : ℕ) (history : List Event) (receipt : Receipt) → Contains (calls_from place pass history) receipt → Contains (all_receipts place history) receipt }
+    ensures once { (place pass : ℕ) (history : List Event) → IsStrictlyIncreasing (map (λ r. r.place) (calls_from place pass history)) }
 {}
 
 /// The answers to a pass that has all the rights, in any yard: one event more, at once, or want of memory, or a full
