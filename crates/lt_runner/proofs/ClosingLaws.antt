@@ -53,34 +53,34 @@ only_front view [] new count is one = let e : [] ≡ opening_passes 1 = is ∙ a
 only_front view (p ∷ ps) new count is one = refl
 
 -- its receipts are all
-pub receipts_are : (setting : Setting) (events : List Event) (closed : Closed) (front : List (Vec Receipt)) (receipts : Vec Receipt) → setting.plan.passes ≡ 1 → IsLegal setting events → IsRest setting events closed →
+pub receipts_are : (setting : Setting) (events : List Event) (passes : List PassView) (closed : Closed) (front : List (Vec Receipt)) (receipts : Vec Receipt) → setting.plan.passes ≡ 1 → IsLegal setting events → IsRest setting events passes closed →
     closed.lists.items ≡ front ++ receipts ∷ [] → receipts.items ≡ all_receipts setting.plan.first events
-receipts_are setting events closed front receipts one legal rest is =
+receipts_are setting events passes closed front receipts one legal rest is =
     let lists : map (λ (v : Vec Receipt). v.items) (front ++ receipts ∷ []) ≡ calls_from setting.plan.first 0 events ∷ [] =
     ap (map (λ (v : Vec Receipt). v.items)) (sym is) ∙ rest.lists ∙ ap (λ n. map (λ pass. calls_from setting.plan.first pass events) (numbers_from 0 n)) one in
     last_of_one (λ (v : Vec Receipt). v.items) front receipts (calls_from setting.plan.first 0 events) lists
     ∙ calls_all setting setting.plan.first (opening setting) events one legal
 
 -- so that the transcript tells what the scheduler does
-tells_here : (trace : TraceView) (first : ℕ) (events : List Event) (turns : List Turn) (closed : Closed) (outcomes : Vec Ended) (front : List (Vec Receipt)) (receipts : Vec Receipt) →
-    IsLegal (setting_of trace 1 first) events → game_at events turns false ≡ game_of trace first → IsRest (setting_of trace 1 first) events closed →
+tells_here : (trace : TraceView) (first : ℕ) (events : List Event) (turns : List Turn) (passes : List PassView) (closed : Closed) (outcomes : Vec Ended) (front : List (Vec Receipt)) (receipts : Vec Receipt) →
+    IsLegal (setting_of trace 1 first) events → game_at events turns false ≡ game_of trace first → IsRest (setting_of trace 1 first) events passes closed →
     closed.lists.items ≡ front ++ receipts ∷ [] → outcomes.items ≡ filter_map ended_in turns →
     Tells (serial trace first) (record { receipts = receipts; outcomes = outcomes; places = closed.places; used = closed.used })
-tells_here trace first events turns closed outcomes front receipts legal game rest lists ends =
+tells_here trace first events turns passes closed outcomes front receipts legal game rest lists ends =
     let setting = setting_of trace 1 first in
     let happened : events ≡ (game_of trace first).events = ap (λ (g : Game). g.events) game in
     record {
-      receipts = receipts_are setting events closed front receipts refl legal rest lists ∙ ap (all_receipts first) happened;
+      receipts = receipts_are setting events passes closed front receipts refl legal rest lists ∙ ap (all_receipts first) happened;
       outcomes = ends ∙ ap (λ (g : Game). filter_map ended_in g.turns) game;
       places = rest.places ∙ ap length happened;
       used = rest.used ∙ ap (λ es. used (after setting es)) happened;
     }
 
-pub tells : (trace : TraceView) (first : ℕ) (setting : Setting) (events : List Event) (turns : List Turn) (closed : Closed) (outcomes : Vec Ended) (front : List (Vec Receipt)) (receipts : Vec Receipt) →
-    setting ≡ setting_of trace 1 first → IsLegal setting events → game_at events turns false ≡ played setting (txns_of trace.lines) trace.lines → IsRest setting events closed →
+pub tells : (trace : TraceView) (first : ℕ) (setting : Setting) (events : List Event) (turns : List Turn) (passes : List PassView) (closed : Closed) (outcomes : Vec Ended) (front : List (Vec Receipt)) (receipts : Vec Receipt) →
+    setting ≡ setting_of trace 1 first → IsLegal setting events → game_at events turns false ≡ played setting (txns_of trace.lines) trace.lines → IsRest setting events passes closed →
     closed.lists.items ≡ front ++ receipts ∷ [] → outcomes.items ≡ filter_map ended_in turns →
     Tells (serial trace first) (record { receipts = receipts; outcomes = outcomes; places = closed.places; used = closed.used })
-tells trace first setting events turns closed outcomes front receipts same legal game rest lists ends =
-    let P = λ (s : Setting). IsLegal s events → game_at events turns false ≡ played s (txns_of trace.lines) trace.lines → IsRest s events closed →
+tells trace first setting events turns passes closed outcomes front receipts same legal game rest lists ends =
+    let P = λ (s : Setting). IsLegal s events → game_at events turns false ≡ played s (txns_of trace.lines) trace.lines → IsRest s events passes closed →
     Tells (serial trace first) (record { receipts = receipts; outcomes = outcomes; places = closed.places; used = closed.used }) in
-    subst P (sym same) (λ l g r. tells_here trace first events turns closed outcomes front receipts l g r lists ends) legal game rest
+    subst P (sym same) (λ l g r. tells_here trace first events turns passes closed outcomes front receipts l g r lists ends) legal game rest

@@ -8,8 +8,8 @@ use Rattle.lt_seq.proofs.TableLaws.{length-after, used_most}
 use Rattle.lt_seq.specs.History.{after, IsNext, IsLegal, IsQuestion, calls_from}
 use Rattle.lt_seq.proofs.HistoryLaws.{after_more, legal_more, calls_more}
 use Rattle.std.specs.List.{AllByRecursion}
-use Rattle.lt_seq.specs.Yard.{IsSound, origin_of}
-use Rattle.lt_seq.specs.Passes.{numbers_from, front_of_first, AreAll}
+use Rattle.lt_seq.specs.Yard.{IsSound, PassView, origin_of}
+use Rattle.lt_seq.specs.Passes.{numbers_from, AreAll}
 use Rattle.lt_seq.specs.Questions.{events_of}
 use Rattle.lt_seq.specs.SeqPass.{plain, alone_view, origin_in, Planned, IsSequential}
 
@@ -80,7 +80,7 @@ last_of : (plan : YardPlan) (before : List Planned) (pass : Planned) → AllByRe
 last_of plan [] pass all = ap (λ o. o.plan) all.0
 last_of plan (p ∷ ps) pass all = last_of plan ps pass all.1
 
-only_of : (plan : YardPlan) (before : List Planned) (pass : Planned) → plan.passes ≡ 1 → map (λ v. v.number) (map (λ p. p.view) (before ++ pass ∷ [])) ≡ numbers_from 0 plan.passes → front_of_first (map (λ p. p.view) (before ++ pass ∷ [])) ≡ pass.view.front
+only_of : (plan : YardPlan) (before : List Planned) (pass : Planned) → plan.passes ≡ 1 → map (λ v. v.number) (map (λ p. p.view) (before ++ pass ∷ [])) ≡ numbers_from 0 plan.passes → map (λ p. p.view) (before ++ pass ∷ []) ≡ pass.view ∷ []
 only_of plan [] pass one numbers = refl
 only_of plan (p ∷ []) pass one numbers = absurd (omega (arith, ap length (numbers ∙ ap (numbers_from 0) one)))
 only_of plan (p ∷ q ∷ ps) pass one numbers = absurd (omega (arith, ap length (numbers ∙ ap (numbers_from 0) one)))
@@ -88,10 +88,10 @@ only_of plan (p ∷ q ∷ ps) pass one numbers = absurd (omega (arith, ap length
 -- what the one pass leaves is what the yard leaves
 pub rest_of : (plan : YardPlan) (passes before : List Planned) (pass : Planned) → passes ≡ before ++ pass ∷ [] →
     AllByRecursion (λ p. origin_in p ≡ origin_of [] (plain plan)) passes → AreAll (plain plan) (map (λ p. p.view) passes) → pass.plan.passes ≡ 1 →
-    (P : Setting → List Event → Type 0) → P (plain pass.plan) pass.view.front → P (plain plan) (front_of_first (map (λ p. p.view) passes))
+    (P : Setting → List PassView → Type 0) → P (plain pass.plan) (pass.view ∷ []) → P (plain plan) (map (λ p. p.view) passes)
 rest_of plan passes before pass is of all one P rest =
     let same : pass.plan ≡ plan = last_of plan before pass (subst (AllByRecursion (λ p. origin_in p ≡ origin_of [] (plain plan))) is of) in
     let numbers = subst (λ ps. map (λ v. v.number) (map (λ p. p.view) ps) ≡ numbers_from 0 plan.passes) is all.numbers in
-    let front : front_of_first (map (λ p. p.view) passes) ≡ pass.view.front =
-    ap (λ ps. front_of_first (map (λ p. p.view) ps)) is ∙ only_of plan before pass (ap (λ p. p.passes) (sym same) ∙ one) numbers in
-    subst (λ front. P (plain plan) front) (sym front) (subst (λ plan. P (plain plan) pass.view.front) same rest)
+    let views : map (λ p. p.view) passes ≡ pass.view ∷ [] =
+    ap (λ ps. map (λ p. p.view) ps) is ∙ only_of plan before pass (ap (λ p. p.passes) (sym same) ∙ one) numbers in
+    subst (λ views. P (plain plan) views) (sym views) (subst (λ plan. P (plain plan) (pass.view ∷ [])) same rest)

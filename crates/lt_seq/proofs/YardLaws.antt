@@ -99,7 +99,7 @@ caused_alone setting old new (OutOfLocks place used_rows) all cause = cause
 
 ask_caused_alone : (setting : Setting) (old new : PassView) (fault : Fault) → HasAll setting old → AskCaused setting old new fault old.front → AloneAskCaused setting old.front fault
 ask_caused_alone setting old new OutOfMemory all cause = tt
-ask_caused_alone setting old new (Busy row holder) all cause = cause.others all
+ask_caused_alone setting old new (Busy row holder) all cause = cause.0.others all
 ask_caused_alone setting old new (HistoryFull place) all cause = cause
 ask_caused_alone setting old new (OutOfLocks place used_rows) all cause = cause
 

@@ -111,8 +111,9 @@ pub record FaultAt (setting : Setting) (old new : PassView) (seen : List Event) 
   pub cause : Cause seen
   pub watches : Watches setting old new
 
--- the row was held by another pass, and this pass has not all the rights
-pub record IsBusy (setting : Setting) (old new : PassView) (row holder : ℕ) : Type 0 where
+-- the row was held by another pass, this pass has not all the rights, and its look showed a place at which an event could be made
+pub record IsBusy (setting : Setting) (old new : PassView) (seen : List Event) (row holder : ℕ) : Type 0 where
+  pub room : place_after setting seen < 2 ^ 39
   pub rose : Rose old.met new.met
   pub row_is : row ≡ new.met_row
   pub holder_is : holder ≡ new.met_holder
@@ -133,7 +134,7 @@ pub record IsOutOfLocks (setting : Setting) (seen : List Event) (place used_rows
 -- the cause of each fault of a call other than an ask
 abbrev pub Caused : Setting → PassView → PassView → Fault → List Event → Type 0
 Caused setting old new OutOfMemory seen = Unit {0}
-Caused setting old new (Busy row holder) seen = IsBusy setting old new row holder
+Caused setting old new (Busy row holder) seen = IsBusy setting old new seen row holder
 Caused setting old new (HistoryFull place) seen = IsFull setting seen place
 Caused setting old new (OutOfLocks place used_rows) seen = ⊥
 
@@ -144,10 +145,10 @@ Answers setting old new txn deed (Ok receipt) =
 Answers setting old new txn deed (Err fault) =
     (seen : List Event) × FaultAt setting old new seen (Caused setting old new fault)
 
--- An ask looks for room first: it is out of locks exactly where its look shows no room.
+-- and of an ask, which looks for rows below the limit too before it can be busy
 abbrev pub AskCaused : Setting → PassView → PassView → Fault → List Event → Type 0
 AskCaused setting old new OutOfMemory seen = Unit {0}
-AskCaused setting old new (Busy row holder) seen = IsBusy setting old new row holder
+AskCaused setting old new (Busy row holder) seen = IsBusy setting old new seen row holder × (used (after setting seen) < setting.plan.limit)
 AskCaused setting old new (HistoryFull place) seen = IsFull setting seen place
 AskCaused setting old new (OutOfLocks place used_rows) seen = IsOutOfLocks setting seen place used_rows
 

@@ -1,6 +1,6 @@
 //! Laws of the table.
-ghost use Rattle.std.specs.Prelude.{◌≡◌, ◌≢◌, ℕ, ◌+◌, ◌^◌, ◌<◌, ◌≤◌, ◌==◌, ◌&&◌, List, [], ◌∷◌, ◌++◌, length, take, Result, true};
-ghost use Rattle.std.specs.List.{list_any};
+ghost use Rattle.std.specs.Prelude.{◌≡◌, ◌≢◌, ℕ, ◌+◌, ◌^◌, ◌<◌, ◌≤◌, ◌==◌, ◌&&◌, List, [], ◌∷◌, ◌++◌, length, take, map, Result, true};
+ghost use Rattle.std.specs.List.{list_any, Contains};
 ghost use Rattle.std.specs.List.Sorted.{IsStrictlyIncreasing};
 ghost use Rattle.lt_ranges.specs.declared.key.Key.{Key};
 ghost use Rattle.lt_ranges.specs.Interval.{Interval};
@@ -15,10 +15,13 @@ ghost use Rattle.lt_seq.specs.declared.event.Receipt.{Receipt};
 ghost use Rattle.lt_seq.specs.declared.fault.Fault.{Fault};
 ghost use Rattle.lt_seq.specs.Joins.{Joins, holds};
 ghost use Rattle.lt_seq.specs.Sound.{IsLawfulTable};
+ghost use Rattle.lt_seq.specs.KeepsLocks.{KeepsLocks};
 ghost use Rattle.lt_seq.specs.Rows.{WorkedRows};
 ghost use Rattle.lt_seq.specs.Table.{Setting, TreeState, opening, step, tree_at, used};
 ghost use Rattle.lt_seq.specs.History.{after, IsLegal, IsNext, calls_from};
 ghost use Rattle.lt_seq.specs.Yard.{PassView, HasAll, Answers, AskAnswers, place_after};
+ghost use Rattle.lt_seq.specs.Passes.{RightsAndFronts, opening_passes, IsInOneList};
+ghost use Rattle.lt_seq.specs.Questions.{all_receipts};
 ghost use Rattle.lt_seq.specs.Alone.{AloneAnswers, AloneAskAnswers, IsDone};
 
 /// The worked rows come out so.
@@ -60,6 +63,27 @@ pub fn refusals()
 pub fn joined_keeps()
     ensures joins { (marks : List Key) (pairs : List Pair) → IsLawful pairs → Joins marks pairs (joined marks pairs) }
     ensures others { (marks : List Key) (a b : ℕ) (key : Key) (pairs : List Pair) → IsLawful pairs → holds a key pairs ≡ true → holds b key (joined marks pairs) ≡ true → a ≡ b }
+{}
+
+/// A legal history keeps the locks: at every point no two transactions hold overlapping ranges, a refusal names exactly
+/// the other owners that overlap, and a join takes no held key away and gives none that another holds.
+pub fn legal_histories_keep_locks()
+    ensures { (setting : Setting) (history : List Event) → IsLegal setting history → KeepsLocks setting history }
+{}
+
+/// The passes of a table share its rights, and each has seen a front of its history. It is so of a fresh table; and
+/// wherever it is so, a pass that has all the rights has seen the whole history.
+pub fn rights_and_fronts()
+    ensures opening { (setting : Setting) → 1 ≤ setting.plan.passes → RightsAndFronts setting [] (opening_passes setting.plan.passes) }
+    ensures whole { (setting : Setting) (history : List Event) (views : List PassView) (view : PassView) → RightsAndFronts setting history views → Contains views view → HasAll setting view → view.front ≡ history }
+{}
+
+/// In a legal history each receipt stands in the list of its own pass, and in no other. The lists have no other
+/// receipts, and each is in the order of the places, so that it has none twice.
+pub fn lists_of_passes()
+    ensures each { (setting : Setting) (history : List Event) (receipt : Receipt) → IsLegal setting history → Contains (all_receipts setting.plan.first history) receipt → IsInOneList setting history receipt }
+    ensures all { (place pass : ℕ) (history : List Event) (receipt : Receipt) → Contains (calls_from place pass history) receipt → Contains (all_receipts place history) receipt }
+    ensures once { (place pass : ℕ) (history : List Event) → IsStrictlyIncreasing (map (λ r. r.place) (calls_from place pass history)) }
 {}
 
 /// The answers to a pass that has all the rights, in any yard: one event more, at once, or want of memory, or a full

@@ -1,5 +1,5 @@
 //! The pass of the plain table.
-ghost use Rattle.std.specs.Prelude.{◌≡◌, ◌^◌, ◌≤◌, ◌<◌, [], replicate, length, slice_set, OnOk, OnErr, IfOk};
+ghost use Rattle.std.specs.Prelude.{◌≡◌, ◌^◌, ◌≤◌, ◌<◌, [], ◌∷◌, replicate, length, slice_set, OnOk, OnErr, IfOk};
 ghost use Rattle.lt_seq.specs.declared.event.Deed.TheVariants.{Ask, Free};
 ghost use Rattle.lt_seq.specs.declared.event.Reply.TheVariants.{Granted};
 ghost use Rattle.lt_seq.specs.Table.{fresh, tree_at, ask_reply, after_ask, free_count, after_free};
@@ -138,7 +138,7 @@ impl SeqPass {
     /// Ends the table, and tells its history, its rows in use and what is still held.
     pub(crate) fn close(self, alloc: Global) -> Result<Closed, AllocError>
         ensures one { self.plan.passes ≡ 1 }
-        ensures rest { IfOk result (IsRest (plain self.plan) self.view.front) }
+        ensures rest { IfOk result (IsRest (plain self.plan) self.view.front (self.view ∷ [])) }
     {
         let look = self.look();
         let left = held(alloc, &self.trees)?;

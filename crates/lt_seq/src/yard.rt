@@ -123,5 +123,5 @@ pub trait Yard: Sync + Sized + Drop {
     fn close(self, alloc: Global, passes: Vec<Self::Pass>) -> Result<Closed, AllocError>
         requires of { AllByRecursion (λ p. Self.Pass.origin p ≡ origin_of (identity self) (setting self)) passes.items }
         requires all { AreAll (setting self) (map Self.Pass.view passes.items) }
-        ensures rest { IfOk result (IsRest (setting self) (front_of_first (map Self.Pass.view passes.items))) };
+        ensures rest { IfOk result (IsRest (setting self) (front_of_first (map Self.Pass.view passes.items)) (map Self.Pass.view passes.items)) };
 }

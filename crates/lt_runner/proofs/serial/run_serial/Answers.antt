@@ -1,4 +1,4 @@
-use Rattle.std.proofs.Common.{◌≡◌, ◌∙◌, ap, subst, length, map, [], arith}
+use Rattle.std.proofs.Common.{◌≡◌, ◌∙◌, ap, subst, length, map, slice_set, [], arith}
 use Rattle.lt_seq.specs.declared.plan.YardPlan.{YardPlan}
 use Rattle.lt_seq.specs.Table.{Setting}
 use Rattle.lt_seq.specs.Passes.{IsRest}
@@ -27,12 +27,13 @@ returns-clause-serial g c =
     let setting = g.Y.Yard.setting c.in_ok-yard.yard in
     let new = c.play_trace.new.pass in
     let closed = c.in_ok-lists.field-0 in
+    let passes = map view (slice_set c.in_ok-yard.passes.items 0 new) in
     let front = only_front view c.in_ok-yard.passes.items new c.plan_of-plan.result.passes c.in_ok-yard.ensures.passes (ap (λ (plan : YardPlan). plan.passes) c.plan_of-plan.ensures) in
-    tells c.args.trace.now c.args.first setting (view new).front c.in_ok-turns.turns.items closed c.in_ok-outcomes.outcomes c.pop.new.self.items c.in-Some.receipts
+    tells c.args.trace.now c.args.first setting (view new).front c.in_ok-turns.turns.items passes closed c.in_ok-outcomes.outcomes c.pop.new.self.items c.in-Some.receipts
     (c.in_ok-yard.ensures.setting ∙ ap setting_is c.plan_of-plan.ensures)
     c.in_ok-turns.ensures.alone.legal
     (c.in_ok-turns.ensures.game ∙ ap (λ lines. played setting (txns_of lines) lines) c.lines-lines.ensures.lines)
-    (subst (λ events. IsRest setting events closed) front c.in_ok-lists.ensures.rest)
+    (subst (λ events. IsRest setting events passes closed) front c.in_ok-lists.ensures.rest)
     c.in-Some.ensures.items
     c.in_ok-outcomes.ensures
 
@@ -47,7 +48,8 @@ returns-clause-few g c =
     let setting = g.Y.Yard.setting c.in_ok-yard.yard in
     let new = c.play_trace.new.pass in
     let closed = c.in_ok-lists.field-0 in
+    let passes = map view (slice_set c.in_ok-yard.passes.items 0 new) in
     let front = only_front view c.in_ok-yard.passes.items new c.plan_of-plan.result.passes c.in_ok-yard.ensures.passes (ap (λ (plan : YardPlan). plan.passes) c.plan_of-plan.ensures) in
-    let rest = subst (λ events. IsRest setting events closed) front c.in_ok-lists.ensures.rest in
+    let rest = subst (λ events. IsRest setting events passes closed) front c.in_ok-lists.ensures.rest in
     let events : closed.places ≡ length (view new).front = rest.places in
     few_events c.args.trace.now c.lines-lines.result.now closed.places c.lines-lines.ensures.lines (omega (arith, events, c.in_ok-turns.ensures.few))
