@@ -1,6 +1,6 @@
 //! Laws of the forest. Each function's contract is a law over the definitions; the bodies are empty.
 ghost use Rattle.lt_forest.specs.LawsOfGaps.{RowsHaveOneGap, LeftChildsGap, RightChildsGap, SeenIsWithin, TopIsSeen, LeftIsSeen, RightIsSeen};
-ghost use Rattle.lt_forest.specs.LawsOfParts.{TreesAreOrdered, ReplacedIsInOrder, VisitLeavesOutNone, VisitedIsClosed, ClosedPartHasAll, PartShowsPairs, WholePartShowsAll, EmptyTreeHasNone, PartIsLaidForDeed, PartIsLaidAgain, TopRowStays};
+ghost use Rattle.lt_forest.specs.LawsOfParts.{TreesAreOrdered, ReplacedIsInOrder, VisitLeavesOutNone, VisitedIsClosed, ClosedPartHasAll, PartShowsPairs, WholePartShowsAll, EmptyTreeHasNone, PartIsReplaced, PartIsLaidForDeed, PartIsLaidAgain, TopRowStays};
 ghost use Rattle.lt_forest.specs.LawsOfBuffers.{ChainShowsBuffer, FrontIsGranted, BufferBegins, BufferGrows, BufferEnds, BufferIsDropped, OwnerIsAlone};
 ghost use Rattle.lt_forest.specs.LawsOfRows.{RowsAddUp, VacantIsThere, OpeningIsForest, LinksNameFurther, NoneIsNamedTwice, NoneLeadsBack, NoneOfPoolLeadsBack, PoolIsApart, GapRowsAreLinked, PartRowsAreLinked, RunRowsAreLinked, PoolRowsAreLinked};
 ghost use Rattle.lt_forest.specs.LawsOfOrder.{EndsAreHanging, EndsAreBetween, SameOrderKeeps, LeavingOutLoosens, MergingLoosens, PartWidens, PlacedShows, MiddleDecides, OwnBecomeOne};
@@ -36,6 +36,12 @@ pub fn closed_parts()
     ensures shown { PartShowsPairs }
     ensures whole { WholePartShowsAll }
     ensures empty { EmptyTreeHasNone }
+{}
+
+/// A part may be laid anew with any ranges that ascend, stay in the gap and stay between what hangs: it is a forest again. Its
+/// tree's pairs are the new part's and those that the old part didn't show, and all other rows keep their gaps.
+pub fn part_is_replaced()
+    ensures { PartIsReplaced }
 {}
 
 /// A closed part may be laid anew for an ask that is granted or held, a free, a question who holds and a join: the forest is
