@@ -201,3 +201,8 @@ lawful_app (x ∷ xs) ys a b cross = (
   after_app x.range xs ys a.1 (after_by x.range ys (λ q h. cross x q (inl refl) h)),
   lawful_app xs ys a.2 b (λ p q h k. cross p q (inr h) k),
 )
+
+-- no pair stands on both sides of a lawful list
+pub no_two : (p : Pair) (xs ys : List Pair) → IsLawful (xs ++ ys) → Has p xs → Has p ys → ⊥
+no_two p xs ys lawful h k =
+    not_before p.range (lawful_has p (xs ++ ys) lawful (has_left p xs ys h)) (lawful_cross p p xs ys lawful h k)

@@ -21,7 +21,7 @@ use Rattle.lt_forest.proofs.TreeOrders.{lawful_ordered}
 use Rattle.lt_forest.proofs.EndLaws.{same_links}
 use Rattle.lt_forest.proofs.HangLaws.{hung, hung_pairs, cut_gap}
 use Rattle.lt_forest.proofs.Growing.{grow, height, AllGrow, links_grow, all_grow, fill_leads}
-use Rattle.lt_forest.proofs.TreeParts.{beside, beside_pairs, shown_inside, hung_apart, beside_apart, old_has, has_old, PartLaid, new_lawful, gaps_stay, place_gap, new_has, has_new, new_times, new_length, PartChange, new_pairs}
+use Rattle.lt_forest.proofs.TreeParts.{beside, beside_pairs, shown_inside, shown_apart, hung_apart, beside_apart, old_has, has_old, PartLaid, new_lawful, gaps_stay, place_gap, new_has, has_new, new_times, new_length, PartChange, new_pairs}
 use Rattle.lt_forest.proofs.Chains.{BeginsWith, cut_chain, join_chain, on_chain}
 use Rattle.lt_forest.proofs.ForestLaws.{tree_represents, one_place, Moves, off, put_here, Regrows, regrown, regrown_forest, others_placed}
 use Rattle.lt_forest.proofs.StateLaws.{used_moves}
@@ -290,7 +290,10 @@ module _ {trees rows t : ℕ} {c d : Nodes} {mode : ℕ → Mode} {state : List 
         lawful = new_lawful (placed part) anew;
         has = λ p h. elim (new_has (placed part) anew p h) [
           | inl k ↦ inl k
-          | inr k ↦ inr (subst (Has p) (whole_pairs part) (has_old (placed part) p (inr k)))
+          | inr k ↦ inr (
+            subst (Has p) (whole_pairs part) (has_old (placed part) p (inr k)),
+            λ shown. shown_apart (placed part) p shown k,
+          )
         ];
         shows = λ p h. has_new (placed part) anew p (inl h);
         keeps = λ p h. elim (old_has (placed part) p (subst (Has p) (sym (whole_pairs part)) h)) [

@@ -11,12 +11,12 @@ use Rattle.lt_forest.specs.Changes.{Has, Change}
 use Rattle.lt_forest.specs.Trees.{Tree, leaf, Nodes, pair_of, in_order, pairs_in, IsOrdered, HasGap}
 use Rattle.lt_forest.specs.Paths.{Path, plug, front, back, lower, upper}
 use Rattle.lt_forest.specs.Cuts.{Cut, fill, bare, IsRow, links, ends, AllEnds, Looser, AllAside}
-use Rattle.lt_forest.proofs.PairLists.{map_app, has_left, has_right, has_either, clear_has, filter_app, filter_clear, has_filter, filter_has, one_list}
+use Rattle.lt_forest.proofs.PairLists.{map_app, has_left, has_right, has_either, clear_has, filter_app, filter_clear, has_filter, filter_has, one_list, lawful_left, lawful_right, no_two}
 use Rattle.lt_forest.proofs.TreeLaws.{AgreePath, inner_ordered, plug_ordered, plug_gap, path_gap, in_order-plug}
 use Rattle.lt_forest.proofs.TreeOrders.{all_inside, ordered_lawful, lawful_ordered, beside_clear}
 use Rattle.lt_forest.proofs.SameRows.{times-++, AgreeOn, on_path, on_pairs}
 use Rattle.lt_forest.proofs.EndLaws.{looser_at, same_links}
-use Rattle.lt_forest.proofs.HangLaws.{hung, hung_pairs, AgreeEnds, times-fill, length-fill, has_fill, fill_has, ends_ordered, bare_ordered, fill_ordered, agree_ends, looser_ordered, out_of, into, looser_gap, hung_clear, filter-fill}
+use Rattle.lt_forest.proofs.HangLaws.{hung, hung_pairs, AgreeEnds, times-fill, length-fill, has_fill, fill_has, not_hung, ends_ordered, bare_ordered, fill_ordered, agree_ends, looser_ordered, out_of, into, looser_gap, hung_clear, filter-fill}
 
 -- the rows beside the end of a path, and their pairs
 abbrev pub beside : Path → List ℕ
@@ -126,6 +126,22 @@ module _ {c : Nodes} {H : ℕ → Tree} {w : Path} {cut : Cut} (part : IsPartAt 
     | inl m ↦ inl (fill_has H part.empty c cut p (inl m))
     | inr k ↦ elim k [ inl m ↦ inl (fill_has H part.empty c cut p (inr m)) | inr m ↦ inr m ]
   ])
+
+  pub shown_apart : (p : Pair) → Has p (pairs_in c (bare cut)) → Has p (hung_pairs c H (links cut)) ⊎ Has p (beside_pairs c w) → ⊥
+  shown_apart p h k =
+      let low : List Pair = map (pair_of c) (front w) in
+      let here : List Pair = pairs_in c (fill H cut) in
+      let high : List Pair = map (pair_of c) (back w) in
+      let l : IsLawful (low ++ (here ++ high)) = subst IsLawful (pairs_in-plug c w (fill H cut)) part.lawful in
+      let u : IsLawful (here ++ high) = lawful_right low (here ++ high) l in
+      let is : Has p here = fill_has H part.empty c cut p (inl h) in
+      elim k [
+        | inl m ↦ not_hung H part.empty c cut p (lawful_left here high u) h m
+        | inr m ↦ elim (has_either p low high (subst (Has p) (map_app (pair_of c) (front w) (back w)) m)) [
+          | inl n ↦ no_two p low (here ++ high) l n (has_left p here high is)
+          | inr n ↦ no_two p here high u is n
+        ]
+      ]
 
   -- where the part is closed for the range
 

@@ -125,7 +125,8 @@ pub record ReplacedPart (trees rows : ℕ) (c d : Nodes) (mode : ℕ → Mode) (
     (cut new : Cut) : Type 0 where
   pub pairs : List Pair
   pub lawful : IsLawful pairs
-  pub has : (p : Pair) → Has p pairs → Has p (pairs_in d (bare new)) ⊎ Has p (tree_at state t).pairs
+  pub has : (p : Pair) → Has p pairs
+      → Has p (pairs_in d (bare new)) ⊎ (Has p (tree_at state t).pairs × (Has p (pairs_in c (bare cut)) → ⊥))
   pub shows : (p : Pair) → Has p (pairs_in d (bare new)) → Has p pairs
   pub keeps : (p : Pair) → Has p (tree_at state t).pairs → Has p (pairs_in c (bare cut)) ⊎ Has p pairs
   pub relaid : Relaid trees rows c d mode mode state (slice_set state t (record { pairs = pairs; mode = mode t })) f t top cut new
