@@ -21,8 +21,9 @@ fn deed_of(trees: u32, number: u32, said: Said) -> Result<LineDeed, TraceFault>
     ensures found { (deed : LineDeed) → Says said deed → IfOk result (λ found. (found ≡ deed) × (fault_of_deed number trees deed ≡ None)) }
     ensures fault { (deed : LineDeed) → Says said deed → IfErr result (λ f. fault_of_deed number trees deed ≡ Some f) }
 {
-    let Said::Try { tree, ends } = said else {
-        return Ok(LineDeed::End);
+    let (tree, ends) = match said {
+        Said::Try { tree, ends } => (tree, ends),
+        Said::End => return Ok(LineDeed::End),
     };
     if tree >= trees {
         return Err(TraceFault::TreeOutOfRange { line: number });
@@ -36,17 +37,18 @@ fn deed_of(trees: u32, number: u32, said: Said) -> Result<LineDeed, TraceFault>
     Ok(LineDeed::Try { tree, range })
 }
 
-/// What is wrong with one more line of the transaction behind these lines.
-fn turn_fault(number: u32, before: &Body, txn: u64) -> Option<TraceFault>
-    ensures { result ≡ fault_of_turn number before.now txn }
+/// Refuses one more line of the transaction behind these lines where that is a fault.
+fn check_turn(number: u32, before: &Body, txn: u64) -> Result<(), TraceFault>
+    ensures good { OnOk result (fault_of_turn number before.now txn ≡ None) }
+    ensures fault { IfErr result (λ f. fault_of_turn number before.now txn ≡ Some f) }
 {
     if before.has_ended(txn) {
-        return Some(TraceFault::AfterEnd { line: number });
+        return Err(TraceFault::AfterEnd { line: number });
     }
     if !before.has_begun(txn) && before.txns() >= MOST_TXNS {
-        return Some(TraceFault::TooManyTxns { line: number });
+        return Err(TraceFault::TooManyTxns { line: number });
     }
-    None
+    Ok(())
 }
 
 /// Puts the line that the text spells behind the others, unless something is wrong with it.
@@ -64,9 +66,7 @@ pub(crate) fn add_line(
         return Err(TraceFault::BadLine { line: number });
     };
     let deed = deed_of(header.trees, number, said)?;
-    if let Some(fault) = turn_fault(number, body, txn) {
-        return Err(fault);
-    }
+    check_turn(number, body, txn)?;
     let Ok(()) = body.push(Line { txn, number, deed }) else {
         return Err(TraceFault::OutOfMemory);
     };

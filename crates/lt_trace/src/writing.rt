@@ -1,45 +1,20 @@
 //! Writing traces.
-ghost use Rattle.std.specs.Prelude.{◌≡◌, ℕ, List, ◌++◌, IfOk, OnOk, codes, decimal};
-ghost use Rattle.lt_ranges.specs.KeyText.{key_text, spaced, range_text};
+ghost use Rattle.std.specs.Prelude.{◌≡◌, ℕ, List, ◌++◌, IfOk, OnOk, codes};
+ghost use Rattle.lt_ranges.specs.KeyText.{spaced};
 ghost use Rattle.lt_trace.specs.Grammar.{deed_text, line_text, front_text, whole, Spells};
 ghost use Rattle.lt_trace.specs.Reading.{body_text};
 
 use crate::line::{Line, LineDeed};
 use crate::trace::Trace;
 use itoa::Buffer;
-use lt_ranges::{Key, KeyRange};
+use lt_ranges::{push_range, push_spaced};
 use std::alloc::{AllocError, Global};
-
-fn push_number(out: &mut Vec<u8>, n: u64) -> Result<(), AllocError>
-    ensures { OnOk result (out.new.items ≡ out.old.items ++ decimal n) }
-{
-    let mut buffer = Buffer::new();
-    out.extend_from_slice(buffer.format(n).as_bytes())
-}
 
 fn push_word_and_number(out: &mut Vec<u8>, word: &[u8], n: u64) -> Result<(), AllocError>
     ensures { OnOk result (out.new.items ≡ out.old.items ++ (word.now ++ spaced n)) }
 {
     out.extend_from_slice(word)?;
-    out.extend_from_slice(b" ")?;
-    push_number(out, n)
-}
-
-fn push_key(out: &mut Vec<u8>, key: &Key) -> Result<(), AllocError>
-    ensures { OnOk result (out.new.items ≡ out.old.items ++ (codes " " ++ key_text key.now)) }
-{
-    let text = key.text();
-    out.extend_from_slice(b" ")?;
-    out.extend_from_slice(text.as_slice())
-}
-
-fn push_range(out: &mut Vec<u8>, range: &KeyRange) -> Result<(), AllocError>
-    ensures { OnOk result (out.new.items ≡ out.old.items ++ range_text range.now) }
-{
-    let left = range.left();
-    let right = range.right();
-    push_key(out, &left)?;
-    push_key(out, &right)
+    push_spaced(out, n)
 }
 
 fn push_deed(out: &mut Vec<u8>, deed: &LineDeed) -> Result<(), AllocError>
@@ -64,7 +39,8 @@ fn push_deed(out: &mut Vec<u8>, deed: &LineDeed) -> Result<(), AllocError>
 fn push_line(out: &mut Vec<u8>, line: &Line) -> Result<(), AllocError>
     ensures { OnOk result (out.new.items ≡ out.old.items ++ (line_text line.now ++ codes "\n")) }
 {
-    push_number(out, line.txn)?;
+    let mut buffer = Buffer::new();
+    out.extend_from_slice(buffer.format(line.txn).as_bytes())?;
     push_deed(out, &line.deed)?;
     out.extend_from_slice(b"\n")
 }

@@ -13,9 +13,10 @@ returns-in_err-deed-clause-fault c =
     let Is = IsFormFault c.args.header.now c.args.body.now c.args.number c.args.text.now in
     rw (p.1, p.2) (or_no_memory Is _ (Some read.0, read.1, ap (λ o. option_or o (fault_of_turn c.args.number c.args.body.now read.0.txn)) (c.in_err-deed.ensures.fault read.0.deed read.3)))
 
-pub returns-in-Some-turn_fault-clause-fault : goal.returns-in-Some-turn_fault-clause-fault
-returns-in-Some-turn_fault-clause-fault c =
+pub returns-in_err-check_turn-clause-fault : goal.returns-in_err-check_turn-clause-fault
+returns-in_err-check_turn-clause-fault c =
+    let p = err_from_is_err_and c.from_residual-in_err-check_turn.result c.from_residual-in_err-check_turn.ensures.1 in
     let read = c.in-Some.ensures in
     let turn = fault_of_turn c.args.number c.args.body.now in
     let Is = IsFormFault c.args.header.now c.args.body.now c.args.number c.args.text.now in
-    or_no_memory Is _ (Some read.0, read.1, ap (λ o. option_or o (turn read.0.txn)) (c.in_ok-deed.ensures.found read.0.deed read.3).1 ∙ ap turn (sym read.2) ∙ sym c.in-Some-turn_fault.ensures)
+    rw (p.1, p.2) (or_no_memory Is _ (Some read.0, read.1, ap (λ o. option_or o (turn read.0.txn)) (c.in_ok-deed.ensures.found read.0.deed read.3).1 ∙ ap turn (sym read.2) ∙ c.in_err-check_turn.ensures.fault))
