@@ -34,6 +34,10 @@ fn receipt(place: u64, txn: u64, deed: Deed) -> Receipt {
     }
 }
 
+fn ended(txn: u64, outcome: Outcome) -> Ended {
+    Ended { txn, outcome }
+}
+
 #[test]
 fn nothing_at_all_has_a_last_line(rt: HostRuntime) -> Result<(), Fail> {
     let text = print(rt.alloc(), &[], &[], 0, 0)?;
@@ -66,10 +70,6 @@ fn buffered_asks_questions_and_joins(rt: HostRuntime) -> Result<(), Fail> {
         4 2 who 0 \"b\" \"b\" 1 held by 2\n10 1 who 0 \"c\" \"c\" 2 held by none\nend 11 0\n";
     assert_eq!(rt; text.as_slice(), expected.as_slice());
     Ok(())
-}
-
-fn ended(txn: u64, outcome: Outcome) -> Ended {
-    Ended { txn, outcome }
 }
 
 #[test]
