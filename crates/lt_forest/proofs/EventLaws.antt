@@ -8,11 +8,11 @@ use Rattle.lt_seq.specs.declared.event.Deed.{Deed}
 use Rattle.lt_seq.specs.declared.event.Deed.TheVariants.{Ask, Free, Who, Join}
 use Rattle.lt_seq.specs.Pairs.{others, granted}
 use Rattle.lt_seq.specs.Table.{Setting, TreeState, fresh, tree_at, tree_after, replied, tree_of, is_buffered, pairs_by}
-use Rattle.lt_forest.specs.Changes.{Change}
 use Rattle.lt_forest.specs.Trees.{Nodes, pairs_in}
 use Rattle.lt_forest.specs.Cuts.{Cut, bare}
 use Rattle.lt_forest.specs.Forest.{Forest, IsTree, KeepsModes}
 use Rattle.lt_forest.specs.Plans.{after_deed, IsReplied, Top, IsPart, IsClosedFor, Lays, range_of, shown_state, ShowsDeed, Relaid}
+use Rattle.lt_forest.proofs.Changes.{Change}
 use Rattle.lt_forest.proofs.PairChanges.{NoPair, drops_none, no_change}
 use Rattle.lt_forest.proofs.DeedChanges.{at_score, DeedChange, deed_changes, not_buffered}
 use Rattle.lt_forest.proofs.PartLaws.{part_lawful, part_fewer, part_finds}

@@ -9,7 +9,7 @@ use Rattle.lt_ranges.proofs.IntervalLaws.{before-overlap, overlap_back}
 use Rattle.lt_seq.specs.declared.event.Pair.{Pair}
 use Rattle.lt_seq.specs.Pairs.{IsLawful}
 use Rattle.lt_forest.specs.Counts.{times}
-use Rattle.lt_forest.specs.Changes.{Has}
+use Rattle.lt_forest.specs.Pairs.{Has}
 use Rattle.lt_forest.specs.Bounds.{Bound, Gap}
 use Rattle.lt_forest.specs.Trees.{Tree, leaf, Nodes, pair_of, left_end, right_end, in_order, pairs_in, IsOrdered, HasGap}
 use Rattle.lt_forest.specs.Cuts.{Cut, end, held, fill, bare, IsRow, links, HasCutGap, End, ends, AllEnds, Looser, EndsBefore, BeginsBehind, IsAside, AllAside}

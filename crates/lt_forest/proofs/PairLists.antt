@@ -7,7 +7,7 @@ use Rattle.lt_ranges.proofs.IntervalLaws.{before_trans}
 use Rattle.lt_seq.specs.declared.event.Pair.{Pair}
 use Rattle.lt_seq.specs.Pairs.{AllAfter, IsLawful, with_pair}
 use Rattle.lt_seq.proofs.PairsLaws.{IsClear}
-use Rattle.lt_forest.specs.Changes.{Has}
+use Rattle.lt_forest.specs.Pairs.{Has}
 
 pub map_app : {A B : Type 0} (f : A → B) (xs ys : List A) → map f (xs ++ ys) ≡ map f xs ++ map f ys
 map_app f [] ys = refl

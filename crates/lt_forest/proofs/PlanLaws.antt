@@ -9,12 +9,14 @@ use Rattle.lt_seq.specs.Pairs.{IsLawful}
 use Rattle.lt_seq.specs.Table.{TreeState, tree_at}
 use Rattle.lt_forest.specs.Counts.{times}
 use Rattle.lt_forest.specs.Bounds.{Gap, IsInside}
-use Rattle.lt_forest.specs.Changes.{Has, Change, IsLocal}
+use Rattle.lt_forest.specs.Pairs.{Has}
 use Rattle.lt_forest.specs.Trees.{Tree, leaf, node, Nodes, LeadsTo, in_order, pairs_in, IsOrdered, HasGap}
-use Rattle.lt_forest.specs.Paths.{plug, front, back, lower, upper, last_link}
+use Rattle.lt_forest.specs.Paths.{plug, front, back, lower, upper}
 use Rattle.lt_forest.specs.Cuts.{Cut, end, held, Shows, fill, bare, links}
 use Rattle.lt_forest.specs.Forest.{Forest, Growth, search_tree, rows_at, IsTree, IsChain, GapIn, KeepsModes}
 use Rattle.lt_forest.specs.Plans.{Top, from_row, top_link, IsInGap, IsPart, IsClosedFor, Lays, ReplacedPart, Relaid}
+use Rattle.lt_forest.proofs.TreeLaws.{last_link}
+use Rattle.lt_forest.proofs.Changes.{Change, IsLocal}
 use Rattle.lt_forest.proofs.PairLists.{not_over}
 use Rattle.lt_forest.proofs.SameRows.{times-++, one_here, one_equal, AgreeOn, on_path}
 use Rattle.lt_forest.proofs.TreeOrders.{lawful_ordered}

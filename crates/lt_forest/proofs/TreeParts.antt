@@ -7,10 +7,11 @@ use Rattle.lt_seq.specs.declared.event.Pair.{Pair}
 use Rattle.lt_seq.specs.Pairs.{IsLawful}
 use Rattle.lt_forest.specs.Counts.{times}
 use Rattle.lt_forest.specs.Bounds.{Bound, Gap, IsInside}
-use Rattle.lt_forest.specs.Changes.{Has, Change}
+use Rattle.lt_forest.specs.Pairs.{Has}
 use Rattle.lt_forest.specs.Trees.{Tree, leaf, Nodes, pair_of, in_order, pairs_in, IsOrdered, HasGap}
 use Rattle.lt_forest.specs.Paths.{Path, plug, front, back, lower, upper}
 use Rattle.lt_forest.specs.Cuts.{Cut, fill, bare, IsRow, links, ends, AllEnds, Looser, AllAside}
+use Rattle.lt_forest.proofs.Changes.{Change}
 use Rattle.lt_forest.proofs.PairLists.{map_app, has_left, has_right, has_either, clear_has, filter_app, filter_clear, has_filter, filter_has, one_list, lawful_left, lawful_right, no_two}
 use Rattle.lt_forest.proofs.TreeLaws.{AgreePath, inner_ordered, plug_ordered, plug_gap, path_gap, in_order-plug}
 use Rattle.lt_forest.proofs.TreeOrders.{all_inside, ordered_lawful, lawful_ordered, beside_clear}

@@ -19,7 +19,7 @@ use Rattle.lt_forest.specs.Trees.{Node, Nodes}
 use Rattle.lt_forest.specs.Cuts.{Cut, end, held, Shows}
 use Rattle.lt_forest.specs.Forest.{search_tree, Represents, stands, IsForest, ChangesOnly}
 use Rattle.lt_forest.specs.Plans.{Top, from_anchor, from_row, IsPart, IsClosedFor, Lays, ShowsDeed}
-use Rattle.lt_forest.specs.WorkedTrees.{from_to, at, holds, leads, one_tree, four, four_tree, four_forest, tree_modes, four_state, four_events, with_images, WorkedInsertion, WorkedMerge, WorkedRemoval, WorkedJoin, WorkedQuestion, WorkedRotation}
+use Rattle.lt_forest.specs.WorkedTrees.{from_to, at, holds, leads, one_tree, four, four_tree, four_forest, tree_modes, four_state, four_events, with_images, WorkedStart, WorkedInsertion, WorkedMerge, WorkedRemoval, WorkedJoin, WorkedQuestion, WorkedRotation}
 use Rattle.lt_forest.proofs.VisitLaws.{visited_closed}
 use Rattle.lt_forest.proofs.WidenLaws.{widens}
 use Rattle.lt_forest.proofs.OrderLaws.{order_ends, order_rows, order_pairs}
@@ -72,7 +72,7 @@ only_zero : (P : ℕ → Type 0) → P 0 → (t : ℕ) → t < 1 → P t
 only_zero P at zero lt = at
 only_zero P at (suc t) lt = absurd (omega arith)
 
-pub four_is_forest : IsForest 1 9 four tree_modes four_state four_forest
+four_is_forest : IsForest 1 9 four tree_modes four_state four_forest
 four_is_forest = record {
   size = refl;
   grown = only_zero (λ t. Represents four (four t).left (search_tree four_tree) (tree_at four_state t).pairs (TreeMode 100))
@@ -84,7 +84,7 @@ four_is_forest = record {
   many = refl;
 }
 
--- the history that led there is legal, so its table is sound
+-- the history that leads there is legal, so its table is sound
 
 four_legal : IsLegal one_tree four_events
 unfolding key_le
@@ -102,6 +102,9 @@ four_legal = (
 four_after : after one_tree four_events ≡ four_state
 unfolding key_le
 four_after = refl
+
+pub start : WorkedStart
+start = record { legal = four_legal; leads_there = four_after; forest = four_is_forest }
 
 four_sound : AllSound four_state
 four_sound = subst AllSound four_after (sound_history one_tree four_events four_legal)

@@ -9,7 +9,7 @@ use Rattle.lt_seq.specs.Sound.{AllSound}
 use Rattle.lt_seq.specs.Table.{Setting, TreeState, tree_at, tree_of}
 use Rattle.lt_forest.specs.Counts.{times}
 use Rattle.lt_forest.specs.Bounds.{Gap}
-use Rattle.lt_forest.specs.Changes.{Has}
+use Rattle.lt_forest.specs.Pairs.{Has}
 use Rattle.lt_forest.specs.Trees.{Tree, leaf, Nodes, pairs_in, IsOrdered}
 use Rattle.lt_forest.specs.Paths.{Path, plug, front, back, lower, upper}
 use Rattle.lt_forest.specs.Cuts.{Cut, fill, bare, ends, AllEnds}

@@ -11,7 +11,7 @@ use Rattle.lt_seq.specs.Sound.{AllSound}
 use Rattle.lt_seq.specs.Table.{Setting, TreeState, tree_at, tree_of, tree_after, replied}
 use Rattle.lt_forest.specs.Counts.{times}
 use Rattle.lt_forest.specs.Bounds.{Gap, IsInside}
-use Rattle.lt_forest.specs.Changes.{Has}
+use Rattle.lt_forest.specs.Pairs.{Has}
 use Rattle.lt_forest.specs.Trees.{Node, Nodes, in_order, pairs_in}
 use Rattle.lt_forest.specs.Cuts.{Cut, Shows, bare, IsRow, HasCutGap, ends, Looser, AllAside}
 use Rattle.lt_forest.specs.Forest.{Growth, Forest, IsTree, IsRun, IsForest, GapIn, ChangesOnly, Becomes}

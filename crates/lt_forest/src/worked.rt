@@ -1,11 +1,12 @@
 //! Worked plans, carried through the laws: they show that the laws' premises can be met.
-ghost use Rattle.lt_forest.specs.WorkedTrees.{WorkedInsertion, WorkedMerge, WorkedRemoval, WorkedJoin, WorkedQuestion, WorkedRotation};
+ghost use Rattle.lt_forest.specs.WorkedTrees.{WorkedStart, WorkedInsertion, WorkedMerge, WorkedRemoval, WorkedJoin, WorkedQuestion, WorkedRotation};
 ghost use Rattle.lt_forest.specs.WorkedBuffer.{WorkedBuffer};
 
-/// A table of one tree with four rows, and what plans make of it: a range is inserted below a held row, three ranges of one
-/// transaction become one, a row goes below which two links hang, the tree is joined, a question changes nothing, and two rows
-/// are turned.
+/// A table of one tree with four rows, to which a history leads, and what plans make of it: a range is inserted below a held
+/// row, three ranges of one transaction become one, a row goes below which two links hang, the tree is joined, a question
+/// changes nothing, and two rows are turned.
 pub fn worked_trees()
+    ensures start { WorkedStart }
     ensures insertion { WorkedInsertion }
     ensures merge { WorkedMerge }
     ensures removal { WorkedRemoval }
