@@ -16,7 +16,7 @@ use Rattle.lt_forest.specs.Trees.{Node, Tree, leaf, node, Nodes}
 use Rattle.lt_forest.specs.Cuts.{Cut, end, held}
 use Rattle.lt_forest.specs.Forest.{Forest, search_tree, IsForest}
 use Rattle.lt_forest.specs.Widenings.{Widens}
-use Rattle.lt_forest.specs.Plans.{Top, from_anchor, from_row, Relaid}
+use Rattle.lt_forest.specs.Plans.{Top, from_anchor, from_row, Relaid, ReplacedPart}
 
 -- the range from one text to another, and that of one text alone
 abbrev pub from_to : List ℕ → List ℕ → Interval
@@ -141,3 +141,10 @@ WorkedRotation =
     tree_modes tree_modes four_state four_state four_forest 0 from_anchor
     (held (held (end 0) 2 (end 0)) 4 (end 7))
     (held (end 0) 2 (held (end 0) 4 (end 7)))
+
+-- Row 6 gets another owner and "p" to "q" in place of "t": the range lies in the gap above "m" and ends no later than "t" did,
+-- before what hangs behind it.
+abbrev pub WorkedReplacement : Type 0
+WorkedReplacement =
+    ReplacedPart 1 9 four (with_images four ((6, holds 3 (from_to (codes "p") (codes "q")) 0 6) ∷ [])) tree_modes four_state four_forest 0
+    (from_row 6 (Some (Bytes (codes "m")), None)) (held (end 0) 6 (end 6)) (held (end 0) 6 (end 6))

@@ -1,4 +1,4 @@
-use Rattle.lt_forest.proofs.WorkedTrees.{start, insertion, merge, removal, join, question, rotation}
+use Rattle.lt_forest.proofs.WorkedTrees.{start, insertion, merge, removal, join, question, rotation, replacement}
 use Rattle.lt_forest.proofs.worked.worked_trees.Goals as goal
 
 pub returns : goal.returns
@@ -10,4 +10,5 @@ returns c = record {
   join = join;
   question = question;
   rotation = rotation;
+  replacement = replacement;
 }
