@@ -11,9 +11,10 @@ use Rattle.lt_seq.specs.declared.event.Deed.TheVariants.{Ask, Free, Who, Join}
 use Rattle.lt_seq.specs.Pairs.{IsLawful, is_own, others, granted, joined}
 use Rattle.lt_seq.specs.History.{IsQuestion}
 use Rattle.lt_seq.specs.Table.{Setting, TreeState, tree_after, replied, pairs_by, reply_by, is_buffered}
-use Rattle.lt_forest.specs.Changes.{Has, Change, IsLocal}
+use Rattle.lt_forest.specs.Pairs.{Has}
 use Rattle.lt_forest.specs.Forest.{IsTree}
 use Rattle.lt_forest.specs.Plans.{range_of}
+use Rattle.lt_forest.proofs.Changes.{Change, IsLocal}
 use Rattle.lt_forest.proofs.BoundLaws.{over_whole, in_whole}
 use Rattle.lt_forest.proofs.PairChanges.{NoPair, drops_none, drops_all, merged, grant_change, free_change, no_change, join_change, grant_local, free_local, no_local, FindsSame, same_others, same_count, same_merged}
 

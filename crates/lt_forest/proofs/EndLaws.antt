@@ -3,7 +3,7 @@ use Rattle.std.proofs.Common.{◌≡◌, inl, inr, ℕ, zero, suc, List, [], ◌
 use Rattle.std.specs.Prelude.{Some, None}
 use Rattle.lt_ranges.specs.Interval.{Interval, IsInterval}
 use Rattle.lt_seq.specs.declared.event.Pair.{Pair}
-use Rattle.lt_forest.specs.Changes.{Has}
+use Rattle.lt_forest.specs.Pairs.{Has}
 use Rattle.lt_forest.specs.Bounds.{Bound, IsInside, NoGreater, NoLess}
 use Rattle.lt_forest.specs.Trees.{Node, Nodes, pair_of, left_end, right_end, in_order, pairs_in, IsOrdered}
 use Rattle.lt_forest.specs.Cuts.{Cut, end, held, bare, links, End, ends, AllEnds, Looser, EndsBefore, BeginsBehind, AllAside}

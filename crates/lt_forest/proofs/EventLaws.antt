@@ -8,15 +8,15 @@ use Rattle.lt_seq.specs.declared.event.Deed.{Deed}
 use Rattle.lt_seq.specs.declared.event.Deed.TheVariants.{Ask, Free, Who, Join}
 use Rattle.lt_seq.specs.Pairs.{others, granted}
 use Rattle.lt_seq.specs.Table.{Setting, TreeState, fresh, tree_at, tree_after, replied, tree_of, is_buffered, pairs_by}
-use Rattle.lt_forest.specs.Changes.{Change}
 use Rattle.lt_forest.specs.Trees.{Nodes, pairs_in}
 use Rattle.lt_forest.specs.Cuts.{Cut, bare}
 use Rattle.lt_forest.specs.Forest.{Forest, IsTree, KeepsModes}
-use Rattle.lt_forest.specs.Plans.{after_deed, IsReplied, Top, IsPart, IsClosedFor, Lays, range_of, shown_state, ShowsDeed, same_pairs, in_range, Relaid}
+use Rattle.lt_forest.specs.Plans.{after_deed, IsReplied, Top, IsPart, IsClosedFor, Lays, range_of, shown_state, ShowsDeed, Relaid}
+use Rattle.lt_forest.proofs.Changes.{Change}
 use Rattle.lt_forest.proofs.PairChanges.{NoPair, drops_none, no_change}
 use Rattle.lt_forest.proofs.DeedChanges.{at_score, DeedChange, deed_changes, not_buffered}
 use Rattle.lt_forest.proofs.PartLaws.{part_lawful, part_fewer, part_finds}
-use Rattle.lt_forest.proofs.PlanLaws.{relaid}
+use Rattle.lt_forest.proofs.PlanLaws.{same_pairs, in_range, relaid}
 
 pub score_of : (mode : Mode) → IsTree mode → (score : ℕ) × (mode ≡ TreeMode score)
 score_of (TreeMode score) is = (score, refl)
@@ -82,12 +82,14 @@ module _ {trees rows : ℕ} {c d : Nodes} {mode mode' : ℕ → Mode} {state : L
   event_relaid =
       let after : TreeState → TreeState = tree_after setting txn deed in
       relaid part lays (record {
-        is_tree = shows.is_tree;
-        mode_is = shows.mode
-            ∙ (ap (λ (x : TreeState). (after x).mode) (sym shown_is)
-            ∙ (sym change.modes ∙ ap (λ (x : TreeState). (after x).mode) whole_state));
-        full = stays_full;
-        other_modes = other_modes;
+        modes = record {
+          is_tree = shows.is_tree;
+          mode_is = shows.mode
+              ∙ (ap (λ (x : TreeState). (after x).mode) (sym shown_is)
+              ∙ (sym change.modes ∙ ap (λ (x : TreeState). (after x).mode) whole_state));
+          full = stays_full;
+          others = other_modes;
+        };
         covered = in_range (range_of deed) closed change.local;
         shown = subst (Change change.added change.dropped (pairs_in c (bare cut)))
             (ap (λ (x : TreeState). (after x).pairs) shown_is ∙ sym shows.pairs) change.shown;
@@ -102,10 +104,12 @@ module _ {trees rows t : ℕ} {c d : Nodes} {mode : ℕ → Mode} {state : List 
   pub layout_relaid : Relaid trees rows c d mode mode state state f t top cut new
   layout_relaid = subst (λ (s : List TreeState). Relaid trees rows c d mode mode state s f t top cut new) (set-get_or state t fresh)
       (relaid part lays (record {
-        is_tree = part.tree_mode;
-        mode_is = part.forest.modes t part.tree;
-        full = λ e. e;
-        other_modes = λ s ne. refl;
+        modes = record {
+          is_tree = part.tree_mode;
+          mode_is = part.forest.modes t part.tree;
+          full = λ e. e;
+          others = λ s ne. refl;
+        };
         covered = same_pairs (λ p a. a) (λ p. refl);
         shown = subst (Change NoPair drops_none (pairs_in c (bare cut))) (sym same) (no_change (pairs_in c (bare cut)) (part_lawful part));
         whole = no_change (tree_at state t).pairs (part.sound t).lawful;

@@ -10,10 +10,14 @@ use Rattle.lt_seq.specs.Table.{TreeState, fresh, tree_at}
 use Rattle.lt_forest.specs.Counts.{one_if, times, total}
 use Rattle.lt_forest.specs.Bounds.{Gap}
 use Rattle.lt_forest.specs.Trees.{Node, Tree, Nodes, LeadsTo, pairs_in}
-use Rattle.lt_forest.specs.Forest.{Forest, Growth, search_tree, chain, rows_at, IsTree, IsChain, AllOf, folded, Represents, stands, IsForest, GapIn, IsPlaced, put, ChangesOnly, KeepsModes}
+use Rattle.lt_forest.specs.Forest.{Forest, Growth, search_tree, chain, rows_at, IsTree, IsChain, AllOf, folded, Represents, stands, IsForest, GapIn, IsPlaced, ChangesOnly, KeepsModes}
 use Rattle.lt_forest.proofs.TreeLaws.{gap_stays, leads_stays, pairs_stay}
 use Rattle.lt_forest.proofs.SameRows.{AgreeOn, on_tree}
 use Rattle.lt_forest.proofs.Chains.{total_has, total_two, total_change, on_chain, on_owner, on_folded}
+
+-- the forest with another growth below one anchor
+abbrev pub put : (ℕ → Growth) → ℕ → Growth → ℕ → Growth
+put tree t new s = if nat_eq s t then new else tree s
 
 pub none_else : (q r : ℕ) → q ≢ r → one_if (nat_eq r q) ≡ 0
 none_else q r ne = ap one_if (ne_eqb r q (λ e. ne (sym e)))

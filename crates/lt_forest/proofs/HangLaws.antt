@@ -7,13 +7,14 @@ use Rattle.lt_ranges.specs.Key.{key_le}
 use Rattle.lt_ranges.specs.Interval.{Interval, overlap}
 use Rattle.lt_ranges.proofs.IntervalLaws.{before-overlap, overlap_back}
 use Rattle.lt_seq.specs.declared.event.Pair.{Pair}
+use Rattle.lt_seq.specs.Pairs.{IsLawful}
 use Rattle.lt_forest.specs.Counts.{times}
-use Rattle.lt_forest.specs.Changes.{Has}
+use Rattle.lt_forest.specs.Pairs.{Has}
 use Rattle.lt_forest.specs.Bounds.{Bound, Gap}
 use Rattle.lt_forest.specs.Trees.{Tree, leaf, Nodes, pair_of, left_end, right_end, in_order, pairs_in, IsOrdered, HasGap}
 use Rattle.lt_forest.specs.Cuts.{Cut, end, held, fill, bare, IsRow, links, HasCutGap, End, ends, AllEnds, Looser, EndsBefore, BeginsBehind, IsAside, AllAside}
 use Rattle.lt_forest.proofs.BoundLaws.{lt_le, le_lt}
-use Rattle.lt_forest.proofs.PairLists.{map_app, has_left, has_right, has_either, clear_by, filter_app, filter_clear}
+use Rattle.lt_forest.proofs.PairLists.{map_app, has_left, has_right, has_either, clear_by, filter_app, filter_clear, lawful_left, lawful_right, no_two}
 use Rattle.lt_forest.proofs.TreeLaws.{Agree, ordered_stays, gap_stays}
 use Rattle.lt_forest.proofs.TreeOrders.{pairs_in-node, has_node, node_has, all_inside}
 use Rattle.lt_forest.proofs.SameRows.{times-++, one_equal, AgreeOn, on_left, on_right, on_tree}
@@ -146,6 +147,30 @@ module _ (H : ℕ → Tree) (empty : H 0 ≡ leaf) where
       | inr m ↦ inr (inr (fill_has c b p (inr m)))
     ]
   ])
+
+  -- what is shown doesn't hang
+  pub not_hung : (c : Nodes) (cut : Cut) (p : Pair) → IsLawful (pairs_in c (fill H cut))
+      → Has p (pairs_in c (bare cut)) → Has p (hung_pairs c H (links cut)) → ⊥
+  not_hung c (end l) p lawful h k = absurd h
+  not_hung c (held a r b) p lawful h k =
+      let low : List Pair = pairs_in c (fill H a) in
+      let high : List Pair = pairs_in c (fill H b) in
+      let l : IsLawful (low ++ pair_of c r ∷ high) = subst IsLawful (pairs_in-node c (fill H a) (fill H b) r) lawful in
+      let u : IsLawful (pair_of c r ∷ high) = lawful_right low (pair_of c r ∷ high) l in
+      elim (has_hung_app c p (links a) (links b) k) [
+        | inl m ↦ elim (has_node c (bare a) (bare b) r p h) [
+          | inl n ↦ not_hung c a p (lawful_left low (pair_of c r ∷ high) l) n m
+          | inr n ↦ no_two p low (pair_of c r ∷ high) l (fill_has c a p (inr m))
+              (elim n [ inl e ↦ inl e | inr o ↦ inr (fill_has c b p (inl o)) ])
+        ]
+        | inr m ↦ elim (has_node c (bare a) (bare b) r p h) [
+          | inl n ↦ no_two p low (pair_of c r ∷ high) l (fill_has c a p (inl n)) (inr (fill_has c b p (inr m)))
+          | inr n ↦ elim n [
+            | inl e ↦ no_two p (pair_of c r ∷ []) high u (inl e) (fill_has c b p (inr m))
+            | inr o ↦ not_hung c b p u.2 o m
+          ]
+        ]
+      ]
 
   -- order
 

@@ -5,6 +5,7 @@ pub mod TreeOrders
 pub mod SameRows
 pub mod EndLaws
 pub mod HangLaws
+pub mod Changes
 pub mod PairChanges
 pub mod DeedChanges
 pub mod TreeParts

@@ -10,7 +10,7 @@ use Rattle.lt_ranges.proofs.IntervalLaws.{before-overlap, overlap_back}
 use Rattle.lt_seq.specs.declared.event.Pair.{Pair}
 use Rattle.lt_seq.specs.Pairs.{IsLawful, is_own, is_others, others, freed, count_freed, span, with_pair, granted}
 use Rattle.lt_seq.proofs.PairsLaws.{IsClear}
-use Rattle.lt_forest.specs.Changes.{Has}
+use Rattle.lt_forest.specs.Pairs.{Has}
 use Rattle.lt_forest.specs.LawsOfOrder.{StepsInTheMiddle}
 use Rattle.lt_forest.proofs.BoundLaws.{lt_is, le_lt}
 use Rattle.lt_forest.proofs.PairLists.{clear_by, filter_app, filter_clear, has_filter, not_over, differ, lawful_cross, lawful_has, has_left}

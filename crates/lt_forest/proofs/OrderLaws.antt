@@ -7,29 +7,37 @@ use Rattle.lt_forest.specs.Trees.{Nodes, pair_of, left_end, right_end, in_order,
 use Rattle.lt_forest.specs.Cuts.{Cut, end, held, bare, End, end_if, ends, Looser}
 use Rattle.lt_forest.specs.Counts.{times}
 use Rattle.lt_forest.specs.Plans.{SameRows}
-use Rattle.lt_forest.specs.Parts.{part_row, rows_of, hangs_of, numbers, IsEven, hanging}
+use Rattle.lt_forest.specs.Parts.{part_row, rows_of, hangs_of, numbers, hanging}
 use Rattle.lt_seq.specs.declared.event.Pair.{Pair}
-use Rattle.lt_forest.specs.Items.{Item, row, hang, items, rows_only, next_row, last_row, first_end, last_end, between, EndsHanging, BeginsHanging}
+use Rattle.lt_forest.specs.Items.{Item, row, hang, items, rows_only, next_row, last_row, first_end, last_end, between}
 use Rattle.lt_forest.proofs.BoundLaws.{greater_same, less_same}
 use Rattle.lt_forest.proofs.PairLists.{map_app}
 
 pub rows_of-held : (c : Nodes) (a b : Cut) (r : ℕ) → rows_of c (held a r b) ≡ rows_of c a ++ part_row c r ∷ rows_of c b
 rows_of-held c a b r = map_app (part_row c) (in_order (bare a)) (r ∷ in_order (bare b))
 
-even_app : (xs ys : List PartRow) (r : PartRow) (ls ms : List ℕ) → IsEven xs ls → IsEven ys ms → IsEven (xs ++ r ∷ ys) (ls ++ ms)
-even_app [] ys r [] ms e f = absurd e
-even_app [] ys r (l ∷ []) ms e f = f
-even_app [] ys r (l ∷ m ∷ ls) ms e f = absurd e
-even_app (x ∷ xs) ys r [] ms e f = absurd e
-even_app (x ∷ xs) ys r (l ∷ ls) ms e f = even_app xs ys r ls ms e f
+-- there is one more link than rows: before them, between them and behind them
+abbrev pub HangBetween : List PartRow → List ℕ → Type 0
+HangBetween [] [] = ⊥
+HangBetween [] (l ∷ []) = Unit {0}
+HangBetween [] (l ∷ m ∷ ls) = ⊥
+HangBetween (r ∷ rows) [] = ⊥
+HangBetween (r ∷ rows) (l ∷ ls) = HangBetween rows ls
 
-pub cut_even : (c : Nodes) (cut : Cut) → IsEven (rows_of c cut) (hangs_of cut)
-cut_even c (end l) = tt
-cut_even c (held a r b) =
-    subst (λ (rs : List PartRow). IsEven rs (hangs_of a ++ hangs_of b)) (sym (rows_of-held c a b r))
-    (even_app (rows_of c a) (rows_of c b) (part_row c r) (hangs_of a) (hangs_of b) (cut_even c a) (cut_even c b))
+between_app : (xs ys : List PartRow) (r : PartRow) (ls ms : List ℕ) → HangBetween xs ls → HangBetween ys ms → HangBetween (xs ++ r ∷ ys) (ls ++ ms)
+between_app [] ys r [] ms e f = absurd e
+between_app [] ys r (l ∷ []) ms e f = f
+between_app [] ys r (l ∷ m ∷ ls) ms e f = absurd e
+between_app (x ∷ xs) ys r [] ms e f = absurd e
+between_app (x ∷ xs) ys r (l ∷ ls) ms e f = between_app xs ys r ls ms e f
 
-hanging-++ : (xs ys : List PartRow) (r : PartRow) (ls ms : List ℕ) (x y : Bound) → IsEven xs ls
+pub cut_between : (c : Nodes) (cut : Cut) → HangBetween (rows_of c cut) (hangs_of cut)
+cut_between c (end l) = tt
+cut_between c (held a r b) =
+    subst (λ (rs : List PartRow). HangBetween rs (hangs_of a ++ hangs_of b)) (sym (rows_of-held c a b r))
+    (between_app (rows_of c a) (rows_of c b) (part_row c r) (hangs_of a) (hangs_of b) (cut_between c a) (cut_between c b))
+
+hanging-++ : (xs ys : List PartRow) (r : PartRow) (ls ms : List ℕ) (x y : Bound) → HangBetween xs ls
     → hanging (xs ++ r ∷ ys) (ls ++ ms) x y ≡ hanging xs ls x (Some r.range.left) ++ hanging ys ms (Some r.range.right) y
 hanging-++ [] ys r [] ms x y e = absurd e
 hanging-++ [] ys r (l ∷ []) ms x y e = refl
@@ -45,11 +53,11 @@ pub ends-hanging : (c : Nodes) (cut : Cut) (x y : Bound) → ends c cut x y ≡ 
 ends-hanging c (end l) x y = refl
 ends-hanging c (held a r b) x y =
     ap₂ (λ (es fs : List End). es ++ fs) (ends-hanging c a x (left_end c r)) (ends-hanging c b (right_end c r) y)
-    ∙ (sym (hanging-++ (rows_of c a) (rows_of c b) (part_row c r) (hangs_of a) (hangs_of b) x y (cut_even c a))
+    ∙ (sym (hanging-++ (rows_of c a) (rows_of c b) (part_row c r) (hangs_of a) (hangs_of b) x y (cut_between c a))
     ∙ ap (λ (rs : List PartRow). hanging rs (hangs_of a ++ hangs_of b) x y) (sym (rows_of-held c a b r)))
 
 -- and those of the items
-pub hanging-items : (rows : List PartRow) (ls : List ℕ) (x y : Bound) → IsEven rows ls
+pub hanging-items : (rows : List PartRow) (ls : List ℕ) (x y : Bound) → HangBetween rows ls
     → hanging rows ls x y ≡ between (items rows ls) x y
 hanging-items [] [] x y e = absurd e
 hanging-items [] (zero ∷ []) x y e = refl
@@ -61,7 +69,7 @@ hanging-items (r ∷ rows) (suc l ∷ ls) x y e =
     ap (λ (es : List End). (suc l, x, Some r.range.left) ∷ es) (hanging-items rows ls (Some r.range.right) y e)
 
 pub ends-items : (c : Nodes) (cut : Cut) → ends c cut None None ≡ between (items (rows_of c cut) (hangs_of cut)) None None
-ends-items c cut = ends-hanging c cut None None ∙ hanging-items (rows_of c cut) (hangs_of cut) None None (cut_even c cut)
+ends-items c cut = ends-hanging c cut None None ∙ hanging-items (rows_of c cut) (hangs_of cut) None None (cut_between c cut)
 
 -- looser ends
 
@@ -151,7 +159,21 @@ looser_bounds (hang l ∷ is) x y u v lo hi = (refl, lo, upper is, looser_bounds
     upper (row r ∷ is) = less_same (Some r.range.left)
     upper (hang l ∷ is) = upper is
 
--- only where a link hangs there do the bounds at an end count
+-- Only where a link hangs there do the bounds at an end count.
+
+-- a link hangs behind the last row
+abbrev pub EndsHanging : List Item → Type 0
+EndsHanging [] = ⊥
+EndsHanging (row r ∷ []) = ⊥
+EndsHanging (row r ∷ i ∷ is) = EndsHanging (i ∷ is)
+EndsHanging (hang l ∷ []) = Unit {0}
+EndsHanging (hang l ∷ i ∷ is) = EndsHanging (i ∷ is)
+
+-- a link hangs before the first row
+abbrev pub BeginsHanging : List Item → Type 0
+BeginsHanging [] = ⊥
+BeginsHanging (row r ∷ is) = ⊥
+BeginsHanging (hang l ∷ is) = Unit {0}
 
 upper_only : (is : List Item) (x y v : Bound) → (EndsHanging is → NoLess v y) → Looser (between is x y) (between is x v)
 upper_only [] x y v hi = tt

@@ -10,7 +10,8 @@ use Rattle.lt_seq.proofs.PairsLaws.{lawful-filter}
 use Rattle.lt_seq.proofs.SpanLaws.{lawful-granted}
 use Rattle.lt_seq.proofs.LawfulLaws.{lawful-joined}
 use Rattle.lt_forest.specs.Bounds.{Bound, IsInside}
-use Rattle.lt_forest.specs.Changes.{Has, Change, IsLocal}
+use Rattle.lt_forest.specs.Pairs.{Has}
+use Rattle.lt_forest.proofs.Changes.{Change, IsLocal}
 use Rattle.lt_forest.proofs.BoundLaws.{hull_inside}
 use Rattle.lt_forest.proofs.PairLists.{has_filter, filter_has, has_with, with_has}
 

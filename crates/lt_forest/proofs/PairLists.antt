@@ -7,7 +7,7 @@ use Rattle.lt_ranges.proofs.IntervalLaws.{before_trans}
 use Rattle.lt_seq.specs.declared.event.Pair.{Pair}
 use Rattle.lt_seq.specs.Pairs.{AllAfter, IsLawful, with_pair}
 use Rattle.lt_seq.proofs.PairsLaws.{IsClear}
-use Rattle.lt_forest.specs.Changes.{Has}
+use Rattle.lt_forest.specs.Pairs.{Has}
 
 pub map_app : {A B : Type 0} (f : A → B) (xs ys : List A) → map f (xs ++ ys) ≡ map f xs ++ map f ys
 map_app f [] ys = refl
@@ -201,3 +201,8 @@ lawful_app (x ∷ xs) ys a b cross = (
   after_app x.range xs ys a.1 (after_by x.range ys (λ q h. cross x q (inl refl) h)),
   lawful_app xs ys a.2 b (λ p q h k. cross p q (inr h) k),
 )
+
+-- no pair stands on both sides of a lawful list
+pub no_two : (p : Pair) (xs ys : List Pair) → IsLawful (xs ++ ys) → Has p xs → Has p ys → ⊥
+no_two p xs ys lawful h k =
+    not_before p.range (lawful_has p (xs ++ ys) lawful (has_left p xs ys h)) (lawful_cross p p xs ys lawful h k)

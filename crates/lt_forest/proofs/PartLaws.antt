@@ -9,14 +9,14 @@ use Rattle.lt_seq.specs.Pairs.{IsLawful}
 use Rattle.lt_seq.specs.Table.{TreeState, tree_at}
 use Rattle.lt_forest.specs.Counts.{times}
 use Rattle.lt_forest.specs.Bounds.{Bound, Gap, IsInside, NoGreater, NoLess}
-use Rattle.lt_forest.specs.Changes.{Has}
+use Rattle.lt_forest.specs.Pairs.{Has}
 use Rattle.lt_forest.specs.Trees.{Tree, node, Nodes, pair_of, left_end, right_end, LeadsTo, in_order, pairs_in}
-use Rattle.lt_forest.specs.Paths.{Path, here, plug, front, back, lower, upper, last_link}
+use Rattle.lt_forest.specs.Paths.{Path, here, plug, front, back, lower, upper}
 use Rattle.lt_forest.specs.Cuts.{Cut, end, held, Shows, fill, bare, links, HasCutGap}
 use Rattle.lt_forest.specs.Forest.{Forest, Growth, search_tree, rows_at, GapIn}
 use Rattle.lt_forest.specs.Plans.{Top, from_anchor, from_row, top_link, IsInGap, IsSeen, KeepsLink, HasPartGap, IsPart, IsClosedFor}
 use Rattle.lt_forest.proofs.BoundLaws.{above_wider, below_wider, greater_same, less_same, greater_trans, less_trans}
-use Rattle.lt_forest.proofs.TreeLaws.{AgreePath, found, inner_leads, plug_leads, in_order-plug}
+use Rattle.lt_forest.proofs.TreeLaws.{last_link, AgreePath, found, inner_leads, plug_leads, in_order-plug}
 use Rattle.lt_forest.proofs.PairChanges.{FindsSame}
 use Rattle.lt_forest.proofs.SameRows.{times-++}
 use Rattle.lt_forest.proofs.HangLaws.{hung, times-fill}

@@ -9,13 +9,13 @@ use Rattle.lt_seq.specs.Table.{TreeState, tree_at}
 use Rattle.lt_forest.specs.Counts.{one_if, times}
 use Rattle.lt_forest.specs.Bounds.{Gap}
 use Rattle.lt_forest.specs.Trees.{Tree, leaf, node, Nodes, LeadsTo, in_order, HasGap}
-use Rattle.lt_forest.specs.Paths.{front, back, last_link}
+use Rattle.lt_forest.specs.Paths.{front, back}
 use Rattle.lt_forest.specs.Cuts.{Cut, bare}
 use Rattle.lt_forest.specs.Forest.{Forest, Growth, search_tree, chain, rows_at, IsChain, IsRun, Represents, IsForest, GapIn, IsPlaced}
 use Rattle.lt_forest.specs.Plans.{Top, IsPart}
 use Rattle.lt_forest.specs.Links.{Slot, left_of, right_of, row_with, link_in, IsLinkOf, Leads, by_link, and_on}
 use Rattle.lt_forest.proofs.BoundLaws.{greater_same, less_same}
-use Rattle.lt_forest.proofs.TreeLaws.{found, inner_leads, in_order-plug}
+use Rattle.lt_forest.proofs.TreeLaws.{last_link, found, inner_leads, in_order-plug}
 use Rattle.lt_forest.proofs.SameRows.{times-++, one_here, one_equal}
 use Rattle.lt_forest.proofs.Chains.{cut_chain}
 use Rattle.lt_forest.proofs.ForestLaws.{at_most, one_place, as_chain}

@@ -1,25 +1,29 @@
 -- A part laid anew keeps the forest, with its state changed as the part's pairs are.
-use Rattle.std.proofs.Common.{◌≡◌, ◌⊎◌, inl, inr, ℕ, zero, suc, ◌+◌, ◌<◌, List, [], ◌∷◌, ◌++◌, length, length-append, Bool, false, set, sym, ap, ◌∙◌, subst, arith}
+use Rattle.std.proofs.Common.{◌≡◌, ◌⊎◌, inl, inr, ℕ, zero, suc, ◌+◌, ◌<◌, List, [], ◌∷◌, ◌++◌, length, length-append, Bool, false, set, refl, sym, ap, ◌∙◌, subst, arith}
 use Rattle.std.specs.Prelude.{None}
-use Rattle.lt_ranges.specs.Interval.{overlap}
+use Rattle.lt_ranges.specs.Interval.{Interval, overlap}
 use Rattle.lt_seq.specs.declared.event.Pair.{Pair}
 use Rattle.lt_seq.specs.declared.event.Mode.{Mode}
 use Rattle.lt_seq.specs.declared.event.Mode.TheVariants.{Tree as TreeMode}
+use Rattle.lt_seq.specs.Pairs.{IsLawful}
 use Rattle.lt_seq.specs.Table.{TreeState, tree_at}
 use Rattle.lt_forest.specs.Counts.{times}
 use Rattle.lt_forest.specs.Bounds.{Gap, IsInside}
-use Rattle.lt_forest.specs.Changes.{Has, Change}
-use Rattle.lt_forest.specs.Trees.{Tree, leaf, node, Nodes, LeadsTo, in_order, pairs_in, HasGap}
-use Rattle.lt_forest.specs.Paths.{plug, front, back, lower, upper, last_link}
+use Rattle.lt_forest.specs.Pairs.{Has}
+use Rattle.lt_forest.specs.Trees.{Tree, leaf, node, Nodes, LeadsTo, in_order, pairs_in, IsOrdered, HasGap}
+use Rattle.lt_forest.specs.Paths.{plug, front, back, lower, upper}
 use Rattle.lt_forest.specs.Cuts.{Cut, end, held, Shows, fill, bare, links}
 use Rattle.lt_forest.specs.Forest.{Forest, Growth, search_tree, rows_at, IsTree, IsChain, GapIn, KeepsModes}
-use Rattle.lt_forest.specs.Plans.{Top, from_row, top_link, IsPart, Lays, IsCovered, same_pairs, in_range, Relaid}
+use Rattle.lt_forest.specs.Plans.{Top, from_row, top_link, IsInGap, IsPart, IsClosedFor, Lays, ReplacedPart, Relaid}
+use Rattle.lt_forest.proofs.TreeLaws.{last_link}
+use Rattle.lt_forest.proofs.Changes.{Change, IsLocal}
 use Rattle.lt_forest.proofs.PairLists.{not_over}
 use Rattle.lt_forest.proofs.SameRows.{times-++, one_here, one_equal, AgreeOn, on_path}
+use Rattle.lt_forest.proofs.TreeOrders.{lawful_ordered}
 use Rattle.lt_forest.proofs.EndLaws.{same_links}
 use Rattle.lt_forest.proofs.HangLaws.{hung, hung_pairs, cut_gap}
 use Rattle.lt_forest.proofs.Growing.{grow, height, AllGrow, links_grow, all_grow, fill_leads}
-use Rattle.lt_forest.proofs.TreeParts.{beside, beside_pairs, PartChange, shown_inside, hung_apart, beside_apart, gaps_stay, new_pairs, new_times, new_length, place_gap}
+use Rattle.lt_forest.proofs.TreeParts.{beside, beside_pairs, shown_inside, shown_apart, hung_apart, beside_apart, old_has, has_old, PartLaid, new_lawful, gaps_stay, place_gap, new_has, has_new, new_times, new_length, PartChange, new_pairs}
 use Rattle.lt_forest.proofs.Chains.{BeginsWith, cut_chain, join_chain, on_chain}
 use Rattle.lt_forest.proofs.ForestLaws.{tree_represents, one_place, Moves, off, put_here, Regrows, regrown, regrown_forest, others_placed}
 use Rattle.lt_forest.proofs.StateLaws.{used_moves}
@@ -71,6 +75,10 @@ module _ {trees rows t : ℕ} {c d : Nodes} {mode : ℕ → Mode} {state : List 
       let m = one_place part.forest t part.tree q in
       let z = times-++ q (in_order (bare cut)) taken in
       off part.forest moves q (omega arith) (omega arith)
+
+  laid_part : IsOrdered d (bare new) (lower c (at part).path None) (upper c (at part).path None)
+      → PartLaid c d (hanging part) (at part).path cut new
+  laid_part shown = record { loose = lays.loose; beside_same = beside_same; hung_same = hung_same; new_shown = shown }
 
 -- the row from which a part hangs isn't given to the pool
 
@@ -125,13 +133,101 @@ module _ {trees rows t h : ℕ} {g : Gap} {c d : Nodes} {mode : ℕ → Mode} {s
             omega arith
       ]
 
--- the pairs and the mode that the plan makes of the tree, and how it changes the pairs
-pub record Remakes (c d : Nodes) (mode mode' : ℕ → Mode) (t : ℕ) (old : List Pair) (after : TreeState) (top : Top) (cut new : Cut)
-    (added : Pair → Type 0) (dropped : Pair → Bool) : Type 0 where
+-- the mode that the plan makes of the tree, where the tree after it is this
+pub record Remode (mode mode' : ℕ → Mode) (t : ℕ) (after : TreeState) : Type 0 where
   pub is_tree : IsTree (mode' t)
   pub mode_is : mode' t ≡ after.mode
   pub full : mode t ≡ TreeMode 100 → mode' t ≡ TreeMode 100
-  pub other_modes : KeepsModes t mode mode'
+  pub others : KeepsModes t mode mode'
+
+module _ {trees rows t : ℕ} {c d : Nodes} {mode mode' : ℕ → Mode} {state : List TreeState} {f : Forest} {top : Top}
+    {cut new : Cut}
+    {taken given : List ℕ} {after : TreeState} (part : IsPart trees rows c mode state f t top cut)
+    (lays : Lays trees t top c d cut new taken given) (modes : Remode mode mode' t after)
+    (new_shown : IsOrdered d (bare new) (lower c (at part).path None) (upper c (at part).path None))
+    (new_pairs : pairs_in d (plug (at part).path (fill (hanging part) new)) ≡ after.pairs) where
+  laid : PartLaid c d (hanging part) (at part).path cut new
+  laid = laid_part part lays new_shown
+
+  abbrev tree' : Tree
+  tree' = plug (at part).path (fill (hanging part) new)
+
+  abbrev pool' : List ℕ
+  pool' = given ++ (rest part lays).rest
+
+  vacant' : IsChain d (d trees).left (given ++ (rest part lays).rest)
+  vacant' = join_chain d (d trees).left given (rest part lays).rest lays.pool.rest lays.pool.gives
+      (on_chain c d lays.pool.rest (rest part lays).rest (rest_same part lays) (rest part lays).on)
+
+  leads' : LeadsTo d (d t).left (plug (at part).path (fill (hanging part) new))
+  leads' =
+      let H = hanging part in
+      let link = last_link c (at part).path (c t).left in
+      let old : AllGrow c H (links cut) =
+      links_grow c H link cut (at part).shows (subst (LeadsTo c link) (sym (filled part)) (at part).leads) in
+      let hangs : AllGrow d H (links new) = subst (λ (ls : List ℕ). AllGrow d H ls) (same_links c d cut new None None lays.loose)
+      (all_grow c d H (links cut) (hung_same part lays) old) in
+      (at part).back d (fill H new) lays.link (on_path c d (at part).path (beside_same part lays))
+      (fill_leads d H (top_link top (d t)) new (placed part).empty lays.shows hangs)
+
+  old_rows : rows_at (f.tree t) ≡ in_order (plug (at part).path (fill (hanging part) cut))
+  old_rows = ap rows_at (known part).is ∙ ap in_order (whole_is part)
+
+  grows : Regrows trees t c d mode mode' f after (in_order (bare cut) ++ taken)
+      (search_tree (plug (at part).path (fill (hanging part) new))) (given ++ (rest part lays).rest)
+  grows = record {
+    moves = moves part lays;
+    other_modes = modes.others;
+    mode_is = modes.mode_is;
+    grown = tree_represents d (d t).left (plug (at part).path (fill (hanging part) new)) after.pairs (mode' t) modes.is_tree leads' new_pairs;
+    vacant = vacant';
+    same = λ q.
+        let a = new_times (placed part) laid q in
+        let e = ap (times q) old_rows in
+        let k = in_pool part lays q in
+        let l = times-++ q given (rest part lays).rest in
+        let m = lays.rows.each q in
+        omega arith;
+    long =
+        let a = new_length (placed part) laid in
+        let e = ap (λ (l : List ℕ). length l) old_rows in
+        let k = ap (λ (l : List ℕ). length l) (rest part lays).is in
+        let m = lays.rows.all in
+        omega (arith, length-append given (rest part lays).rest, length-append taken (rest part lays).rest);
+  }
+
+  pub laid_anew : Relaid trees rows c d mode mode' state (set state t after) f t top cut new
+  laid_anew = record {
+    becomes = record {
+      next = regrown f t (search_tree tree') pool';
+      forest = regrown_forest part.forest grows;
+      others = λ s q g score out seen. others_placed part.forest grows s q g score
+          (λ e has. (
+            gaps_stay (placed part) laid q g out
+                (subst (λ (x : Tree). HasGap c x None None q g) (whole_is part) (subst (λ (x : Growth). GapIn c x q g) (known part).is has)),
+            modes.full,
+          )) seen;
+      used_rows = used_moves (length (in_order (bare cut))) (length (in_order (bare new))) part.forest (regrown_forest part.forest grows)
+          (let k = ap (λ (l : List ℕ). length l) (rest part lays).is in
+          let m = lays.rows.all in
+          omega (arith, length-append given (rest part lays).rest, length-append taken (rest part lays).rest));
+    };
+    gaps = λ q g b. subst (λ (x : Growth). GapIn d x q g) (sym (put_here f.tree t (search_tree tree')))
+        (place_gap (placed part) laid q g
+        (cut_gap (hanging part) (placed part).empty d new (lower c (at part).path None) (upper c (at part).path None) q g
+        ((at part).bounds d new q g b)));
+  }
+
+-- A change of the pairs: either none is added or dropped, or those that are belong to a range for which the part is closed.
+pub data IsCovered (top : Top) (c : Nodes) (cut : Cut) (added : Pair → Type 0) (dropped : Pair → Bool) : Type 0 where
+  same_pairs : ((p : Pair) → added p → ⊥) → ((p : Pair) → dropped p ≡ false) → IsCovered top c cut added dropped
+  in_range : (range : Interval) → IsClosedFor range top c cut → IsLocal range added dropped (pairs_in c (bare cut))
+      → IsCovered top c cut added dropped
+
+-- the pairs and the mode that the plan makes of the tree, and how it changes the pairs
+pub record Remakes (c d : Nodes) (mode mode' : ℕ → Mode) (t : ℕ) (old : List Pair) (after : TreeState) (top : Top) (cut new : Cut)
+    (added : Pair → Type 0) (dropped : Pair → Bool) : Type 0 where
+  pub modes : Remode mode mode' t after
   pub covered : IsCovered top c cut added dropped
   pub shown : Change added dropped (pairs_in c (bare cut)) (pairs_in d (bare new))
   pub whole : Change added dropped old after.pairs
@@ -158,86 +254,58 @@ module _ {trees rows t : ℕ} {c d : Nodes} {mode mode' : ℕ → Mode} {state :
   beside_kept (in_range range closed local) p h =
       not_over (dropped p) (overlap p.range range) (local.over p) (beside_apart (placed part) range (closed_at part closed) p h)
 
+  shown' : IsOrdered d (bare new) (lower c (at part).path None) (upper c (at part).path None)
+  shown' = lawful_ordered d (bare new) (lower c (at part).path None) (upper c (at part).path None) remakes.shown.lawful
+      (λ p h. elim (remakes.shown.has p h) [ inl k ↦ fits remakes.covered p k | inr k ↦ shown_inside (placed part) p k.0 ])
+
   changes : PartChange c d (hanging part) (at part).path cut new added dropped
   changes = record {
-    loose = lays.loose;
-    beside_same = beside_same part lays;
-    hung_same = hung_same part lays;
-    fits = fits remakes.covered;
+    laid = laid_part part lays shown';
     hung_kept = hung_kept remakes.covered;
     beside_kept = beside_kept remakes.covered;
     change = remakes.shown;
   }
 
-  abbrev tree' : Tree
-  tree' = plug (at part).path (fill (hanging part) new)
-
-  abbrev pool' : List ℕ
-  pool' = given ++ (rest part lays).rest
-
-  vacant' : IsChain d (d trees).left (given ++ (rest part lays).rest)
-  vacant' = join_chain d (d trees).left given (rest part lays).rest lays.pool.rest lays.pool.gives
-      (on_chain c d lays.pool.rest (rest part lays).rest (rest_same part lays) (rest part lays).on)
-
-  leads' : LeadsTo d (d t).left (plug (at part).path (fill (hanging part) new))
-  leads' =
-      let H = hanging part in
-      let link = last_link c (at part).path (c t).left in
-      let old : AllGrow c H (links cut) =
-      links_grow c H link cut (at part).shows (subst (LeadsTo c link) (sym (filled part)) (at part).leads) in
-      let hangs : AllGrow d H (links new) = subst (λ (ls : List ℕ). AllGrow d H ls) (same_links c d cut new None None lays.loose)
-      (all_grow c d H (links cut) (hung_same part lays) old) in
-      (at part).back d (fill H new) lays.link (on_path c d (at part).path (beside_same part lays))
-      (fill_leads d H (top_link top (d t)) new (placed part).empty lays.shows hangs)
-
   pairs' : pairs_in d (plug (at part).path (fill (hanging part) new)) ≡ after.pairs
   pairs' = new_pairs (placed part) changes after.pairs
       (subst (λ (l : List Pair). Change added dropped l after.pairs) (sym (whole_pairs part)) remakes.whole)
 
-  old_rows : rows_at (f.tree t) ≡ in_order (plug (at part).path (fill (hanging part) cut))
-  old_rows = ap rows_at (known part).is ∙ ap in_order (whole_is part)
-
-  grows : Regrows trees t c d mode mode' f after (in_order (bare cut) ++ taken)
-      (search_tree (plug (at part).path (fill (hanging part) new))) (given ++ (rest part lays).rest)
-  grows = record {
-    moves = moves part lays;
-    other_modes = remakes.other_modes;
-    mode_is = remakes.mode_is;
-    grown = tree_represents d (d t).left (plug (at part).path (fill (hanging part) new)) after.pairs (mode' t) remakes.is_tree leads' pairs';
-    vacant = vacant';
-    same = λ q.
-        let a = new_times (placed part) changes q in
-        let e = ap (times q) old_rows in
-        let k = in_pool part lays q in
-        let l = times-++ q given (rest part lays).rest in
-        let m = lays.rows.each q in
-        omega arith;
-    long =
-        let a = new_length (placed part) changes in
-        let e = ap (λ (l : List ℕ). length l) old_rows in
-        let k = ap (λ (l : List ℕ). length l) (rest part lays).is in
-        let m = lays.rows.all in
-        omega (arith, length-append given (rest part lays).rest, length-append taken (rest part lays).rest);
-  }
-
   pub relaid : Relaid trees rows c d mode mode' state (set state t after) f t top cut new
-  relaid = record {
-    becomes = record {
-      next = regrown f t (search_tree tree') pool';
-      forest = regrown_forest part.forest grows;
-      others = λ s q g score out seen. others_placed part.forest grows s q g score
-          (λ e has. (
-            gaps_stay (placed part) changes q g out
-                (subst (λ (x : Tree). HasGap c x None None q g) (whole_is part) (subst (λ (x : Growth). GapIn c x q g) (known part).is has)),
-            remakes.full,
-          )) seen;
-      used_rows = used_moves (length (in_order (bare cut))) (length (in_order (bare new))) part.forest (regrown_forest part.forest grows)
-          (let k = ap (λ (l : List ℕ). length l) (rest part lays).is in
-          let m = lays.rows.all in
-          omega (arith, length-append given (rest part lays).rest, length-append taken (rest part lays).rest));
-    };
-    gaps = λ q g b. subst (λ (x : Growth). GapIn d x q g) (sym (put_here f.tree t (search_tree tree')))
-        (place_gap (placed part) changes q g
-        (cut_gap (hanging part) (placed part).empty d new (lower c (at part).path None) (upper c (at part).path None) q g
-        ((at part).bounds d new q g b)));
-  }
+  relaid = laid_anew part lays remakes.modes shown' pairs'
+
+-- any lawful pairs in the place of the part's
+
+module _ {trees rows t : ℕ} {c d : Nodes} {mode : ℕ → Mode} {state : List TreeState} {f : Forest} {top : Top} {cut new : Cut}
+    {taken given : List ℕ} (part : IsPart trees rows c mode state f t top cut) (lays : Lays trees t top c d cut new taken given)
+    (lawful : IsLawful (pairs_in d (bare new)))
+    (inside : (p : Pair) → Has p (pairs_in d (bare new)) → IsInGap top p.range) where
+  fits_in : IsOrdered d (bare new) (lower c (at part).path None) (upper c (at part).path None)
+  fits_in = lawful_ordered d (bare new) (lower c (at part).path None) (upper c (at part).path None) lawful
+      (λ p h. (at part).inside p.range (inside p h))
+
+  pub replaced : ReplacedPart trees rows c d mode state f t top cut new
+  replaced =
+      let whole = plug (at part).path (fill (hanging part) new) in
+      let anew = laid_part part lays fits_in in
+      record {
+        pairs = pairs_in d whole;
+        lawful = new_lawful (placed part) anew;
+        has = λ p h. elim (new_has (placed part) anew p h) [
+          | inl k ↦ inl k
+          | inr k ↦ inr (
+            subst (Has p) (whole_pairs part) (has_old (placed part) p (inr k)),
+            λ shown. shown_apart (placed part) p shown k,
+          )
+        ];
+        shows = λ p h. has_new (placed part) anew p (inl h);
+        keeps = λ p h. elim (old_has (placed part) p (subst (Has p) (sym (whole_pairs part)) h)) [
+          | inl k ↦ inl k
+          | inr k ↦ inr (has_new (placed part) anew p (inr k))
+        ];
+        relaid = laid_anew part lays (record {
+          is_tree = part.tree_mode;
+          mode_is = refl;
+          full = λ e. e;
+          others = λ s ne. refl;
+        }) fits_in refl;
+      }

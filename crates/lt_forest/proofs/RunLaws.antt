@@ -8,9 +8,9 @@ use Rattle.lt_ranges.specs.Interval.{Interval, IsInterval}
 use Rattle.lt_forest.specs.declared.part.PartRow.{PartRow}
 use Rattle.lt_forest.specs.Bounds.{Bound, IsAbove, IsBelow, NoGreater, NoLess}
 use Rattle.lt_forest.specs.Cuts.{End, Looser, EndsBefore, BeginsBehind, AllAside}
-use Rattle.lt_forest.specs.Items.{Item, row, hang, rows_only, next_row, last_row, first_end, last_end, between, EndsHanging, BeginsHanging, sift, Ascends, MayMerge}
+use Rattle.lt_forest.specs.Items.{Item, row, hang, rows_only, next_row, last_row, first_end, last_end, between, sift, Ascends, MayMerge}
 use Rattle.lt_forest.proofs.BoundLaws.{lt_is, not_both, above_is, greater_same, less_same, greater_trans, less_trans}
-use Rattle.lt_forest.proofs.OrderLaws.{between-++, next_row-rows, last_row-rows, replaced_looser}
+use Rattle.lt_forest.proofs.OrderLaws.{EndsHanging, BeginsHanging, between-++, next_row-rows, last_row-rows, replaced_looser}
 
 -- rows left out
 

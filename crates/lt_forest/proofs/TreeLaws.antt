@@ -4,7 +4,7 @@ use Rattle.std.specs.Prelude.{Some}
 use Rattle.lt_ranges.specs.Interval.{IsInterval}
 use Rattle.lt_forest.specs.Bounds.{Bound, Gap, IsAbove, IsBelow, NoGreater, NoLess, Within}
 use Rattle.lt_forest.specs.Trees.{Node, Tree, leaf, node, Nodes, pair_of, left_end, right_end, LeadsTo, in_order, pairs_in, IsOrdered, HasGap}
-use Rattle.lt_forest.specs.Paths.{Path, here, leftward, rightward, plug, front, back, lower, upper, last_link}
+use Rattle.lt_forest.specs.Paths.{Path, here, leftward, rightward, plug, front, back, lower, upper}
 use Rattle.lt_forest.proofs.BoundLaws.{above_wider, below_wider, greater_trans, less_trans, greater_same, less_same}
 use Rattle.lt_forest.proofs.PairLists.{map_app}
 
@@ -18,6 +18,12 @@ abbrev pub AgreePath : Nodes → Nodes → Path → Type 0
 AgreePath c d here = Unit {0}
 AgreePath c d (leftward w r b) = (c r ≡ d r) × Agree c d b × AgreePath c d w
 AgreePath c d (rightward a r w) = (c r ≡ d r) × Agree c d a × AgreePath c d w
+
+-- the link that leads to the place
+abbrev pub last_link : Nodes → Path → ℕ → ℕ
+last_link c here link = link
+last_link c (leftward w r b) link = last_link c w (c r).left
+last_link c (rightward a r w) link = last_link c w (c r).right
 
 -- what looser bounds and the same contents leave
 

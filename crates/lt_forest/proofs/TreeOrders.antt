@@ -7,7 +7,7 @@ use Rattle.lt_ranges.proofs.IntervalLaws.{before_trans, before-overlap, overlap_
 use Rattle.lt_seq.specs.declared.event.Pair.{Pair}
 use Rattle.lt_seq.specs.Pairs.{IsLawful}
 use Rattle.lt_seq.proofs.PairsLaws.{IsClear}
-use Rattle.lt_forest.specs.Changes.{Has}
+use Rattle.lt_forest.specs.Pairs.{Has}
 use Rattle.lt_forest.specs.Bounds.{Bound, IsAbove, IsBelow, IsInside}
 use Rattle.lt_forest.specs.Trees.{Tree, leaf, node, Nodes, pair_of, left_end, right_end, in_order, pairs_in, IsOrdered}
 use Rattle.lt_forest.specs.Paths.{Path, here, leftward, rightward, plug, front, back, lower, upper}

@@ -6,18 +6,21 @@ use Rattle.lt_seq.specs.declared.event.Pair.{Pair}
 use Rattle.lt_seq.specs.declared.event.Mode.{Mode}
 use Rattle.lt_seq.specs.declared.event.Mode.TheVariants.{Tree as TreeMode, Buffer}
 use Rattle.lt_seq.specs.declared.event.Deed.{Deed}
+use Rattle.lt_seq.specs.Pairs.{IsLawful}
 use Rattle.lt_seq.specs.Sound.{AllSound}
 use Rattle.lt_seq.specs.Table.{Setting, TreeState, tree_after, replied, tree_of}
+use Rattle.lt_forest.specs.Pairs.{Has}
 use Rattle.lt_forest.specs.Trees.{Node, Nodes, in_order, pairs_in}
 use Rattle.lt_forest.specs.Cuts.{Cut, end, held, Shows, bare, End, ends, Looser, AllAside}
 use Rattle.lt_forest.specs.Forest.{Forest, IsTree, IsRun, IsForest, ChangesOnly, KeepsModes}
-use Rattle.lt_forest.specs.Plans.{after_deed, IsReplied, Top, from_anchor, from_row, top_link, IsSeen, KeepsLink, IsPart, IsClosedFor, MovesPool, Lays, range_of, ShowsDeed, Relaid}
+use Rattle.lt_forest.specs.Plans.{after_deed, IsReplied, Top, from_anchor, from_row, top_link, IsInGap, IsSeen, KeepsLink, IsPart, IsClosedFor, MovesPool, Lays, range_of, ShowsDeed, Relaid, ReplacedPart}
 use Rattle.lt_forest.specs.Views.{Agrees, IsView, AllHeld, PlansOnly, TopHeld, TopStays, HoldsPart, PoolPlan, no_pool, from_pool, PlanLays, PlanShows}
 use Rattle.lt_forest.proofs.SameRows.{AgreeOn, on_left, on_right, on_here, on_pairs}
 use Rattle.lt_forest.proofs.EndLaws.{on_ends}
 use Rattle.lt_forest.proofs.OrderLaws.{looser_same}
 use Rattle.lt_forest.proofs.Chains.{on_run}
 use Rattle.lt_forest.proofs.GapLaws.{placed_tree}
+use Rattle.lt_forest.proofs.PlanLaws.{replaced}
 use Rattle.lt_forest.proofs.EventLaws.{score_of, deed_replies, event_relaid, layout_relaid}
 
 pub on_cut : (v c : Nodes) (link : ℕ) (cut : Cut) → AgreeOn v c (in_order (bare cut)) → Shows v link cut → Shows c link cut
@@ -202,3 +205,15 @@ module _ {has : ℕ → Type 0} {planned : List ℕ} {trees rows t : ℕ} {top :
   pub view_settled : Relaid trees rows c d mode mode state state f t top cut new
   view_settled = layout_relaid (true_part view.before plan.part forest sound tree tree_mode seen) (true_lays view plan)
       (sym (new_pairs view plan) ∙ (same ∙ true_pairs view.before plan.part))
+
+-- any ranges that fit
+
+module _ {has : ℕ → Type 0} {planned : List ℕ} {trees rows t : ℕ} {top : Top} {v v' c d : Nodes} {mode : ℕ → Mode}
+    {state : List TreeState}
+    {f : Forest} {cut new : Cut} {taken given : List ℕ} (forest : IsForest trees rows c mode state f) (sound : AllSound state)
+    (tree : t < trees) (tree_mode : IsTree (mode t)) (seen : IsSeen c (f.tree t) top) (view : IsView has planned v v' c d)
+    (plan : PlanLays has planned trees t top v v' cut new taken given) (lawful : IsLawful (pairs_in v' (bare new)))
+    (inside : (p : Pair) → Has p (pairs_in v' (bare new)) → IsInGap top p.range) where
+  pub view_replaced : ReplacedPart trees rows c d mode state f t top cut new
+  view_replaced = replaced (true_part view.before plan.part forest sound tree tree_mode seen) (true_lays view plan)
+      (subst IsLawful (new_pairs view plan) lawful) (λ p h. inside p (subst (Has p) (sym (new_pairs view plan)) h))

@@ -8,7 +8,7 @@ use Rattle.lt_seq.specs.declared.event.Mode.TheVariants.{Tree as TreeMode, Buffe
 use Rattle.lt_seq.specs.Sound.{AllSound}
 use Rattle.lt_seq.specs.Table.{TreeState, tree_at, used}
 use Rattle.lt_forest.specs.Bounds.{Gap}
-use Rattle.lt_forest.specs.Changes.{Has}
+use Rattle.lt_forest.specs.Pairs.{Has}
 use Rattle.lt_forest.specs.Trees.{Node, Nodes, left_end, right_end, pairs_in}
 use Rattle.lt_forest.specs.Cuts.{Cut, bare}
 use Rattle.lt_forest.specs.Forest.{Forest, IsTree, IsChain, AllOf, folded, IsForest, IsPlaced}

@@ -9,7 +9,7 @@ use Rattle.lt_seq.specs.declared.event.Pair.{Pair}
 use Rattle.lt_seq.specs.declared.event.Mode.{Mode}
 use Rattle.lt_seq.specs.Table.{TreeState, tree_at}
 use Rattle.lt_forest.specs.Bounds.{Bound}
-use Rattle.lt_forest.specs.Changes.{Has}
+use Rattle.lt_forest.specs.Pairs.{Has}
 use Rattle.lt_forest.specs.Trees.{Nodes, left_end, right_end, pairs_in, IsOrdered}
 use Rattle.lt_forest.specs.Cuts.{Cut, end, held, bare, End, ends, AllAside}
 use Rattle.lt_forest.specs.Visits.{IsVisited}

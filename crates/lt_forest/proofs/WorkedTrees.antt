@@ -6,6 +6,7 @@ use native.Mathlib.Decide.{ℕ_discrete}
 use Rattle.lt_ranges.specs.declared.key.Key.TheVariants.{Bytes}
 use Rattle.lt_ranges.specs.Key.{key_le}
 use Rattle.lt_ranges.specs.Interval.{Interval, whole}
+use Rattle.lt_seq.specs.declared.event.Pair.{Pair}
 use Rattle.lt_seq.specs.declared.event.Reply.TheVariants.{Granted}
 use Rattle.lt_seq.specs.declared.event.Deed.{Deed}
 use Rattle.lt_seq.specs.declared.event.Deed.TheVariants.{Ask, Free, Who, Join}
@@ -18,11 +19,12 @@ use Rattle.lt_forest.specs.Counts.{one_if, times}
 use Rattle.lt_forest.specs.Trees.{Node, Nodes}
 use Rattle.lt_forest.specs.Cuts.{Cut, end, held, Shows}
 use Rattle.lt_forest.specs.Forest.{search_tree, Represents, stands, IsForest, ChangesOnly}
-use Rattle.lt_forest.specs.Plans.{Top, from_anchor, from_row, IsPart, IsClosedFor, Lays, ShowsDeed}
-use Rattle.lt_forest.specs.WorkedTrees.{from_to, at, holds, leads, one_tree, four, four_tree, four_forest, tree_modes, four_state, four_events, with_images, WorkedInsertion, WorkedMerge, WorkedRemoval, WorkedJoin, WorkedQuestion, WorkedRotation}
+use Rattle.lt_forest.specs.Plans.{Top, from_anchor, from_row, IsInGap, IsPart, IsClosedFor, Lays, ShowsDeed}
+use Rattle.lt_forest.specs.WorkedTrees.{from_to, at, holds, leads, one_tree, four, four_tree, four_forest, tree_modes, four_state, four_events, with_images, WorkedStart, WorkedInsertion, WorkedMerge, WorkedRemoval, WorkedJoin, WorkedQuestion, WorkedRotation, WorkedReplacement}
 use Rattle.lt_forest.proofs.VisitLaws.{visited_closed}
 use Rattle.lt_forest.proofs.WidenLaws.{widens}
 use Rattle.lt_forest.proofs.OrderLaws.{order_ends, order_rows, order_pairs}
+use Rattle.lt_forest.proofs.PlanLaws.{replaced}
 use Rattle.lt_forest.proofs.EventLaws.{event_relaid, deed_replies, layout_relaid}
 
 -- images change only their rows
@@ -72,7 +74,7 @@ only_zero : (P : ℕ → Type 0) → P 0 → (t : ℕ) → t < 1 → P t
 only_zero P at zero lt = at
 only_zero P at (suc t) lt = absurd (omega arith)
 
-pub four_is_forest : IsForest 1 9 four tree_modes four_state four_forest
+four_is_forest : IsForest 1 9 four tree_modes four_state four_forest
 four_is_forest = record {
   size = refl;
   grown = only_zero (λ t. Represents four (four t).left (search_tree four_tree) (tree_at four_state t).pairs (TreeMode 100))
@@ -84,7 +86,7 @@ four_is_forest = record {
   many = refl;
 }
 
--- the history that led there is legal, so its table is sound
+-- the history that leads there is legal, so its table is sound
 
 four_legal : IsLegal one_tree four_events
 unfolding key_le
@@ -103,12 +105,27 @@ four_after : after one_tree four_events ≡ four_state
 unfolding key_le
 four_after = refl
 
+pub start : WorkedStart
+start = record { legal = four_legal; leads_there = four_after; forest = four_is_forest }
+
 four_sound : AllSound four_state
 four_sound = subst AllSound four_after (sound_history one_tree four_events four_legal)
 
 -- a part of it that hangs from the anchor
 four_part : (cut : Cut) → Shows four 5 cut → IsPart 1 9 four tree_modes four_state four_forest 0 from_anchor cut
 four_part cut shows = record { forest = four_is_forest; sound = four_sound; tree = lit< tt; tree_mode = tt; seen = tt; shows = shows }
+
+-- row 6 with its gap
+six_part : IsPart 1 9 four tree_modes four_state four_forest 0 (from_row 6 (Some (Bytes (codes "m")), None)) (held (end 0) 6 (end 6))
+unfolding key_le
+six_part = record {
+  forest = four_is_forest;
+  sound = four_sound;
+  tree = lit< tt;
+  tree_mode = tt;
+  seen = inr (inr (inl (refl, (refl, tt))));
+  shows = (refl, refl, refl);
+}
 
 -- one plan after another
 
@@ -120,14 +137,6 @@ insertion =
     let images : List (ℕ × Node) = (6, holds 1 (at (codes "t")) 4 6) ∷ (3, holds 2 (at (codes "p")) 0 0) ∷ (1, leads 8) ∷ [] in
     let top : Top = from_row 6 (Some (Bytes (codes "m")), None) in
     let deed : Deed = Ask 0 (at (codes "p")) Granted in
-    let part : IsPart 1 9 four tree_modes four_state four_forest 0 top cut = record {
-      forest = four_is_forest;
-      sound = four_sound;
-      tree = lit< tt;
-      tree_mode = tt;
-      seen = inr (inr (inl (refl, (refl, tt))));
-      shows = (refl, refl, refl);
-    } in
     let lays : Lays 1 0 top four (with_images four images) cut new (3 ∷ []) [] = record {
       shows = (refl, (refl, refl, refl), refl);
       loose = (refl, refl, tt, tt);
@@ -146,8 +155,8 @@ insertion =
       question = refl;
     } in
     record {
-      relaid = event_relaid part lays closed shows (λ s ne. refl);
-      replies = deed_replies part lays closed shows (λ s ne. refl);
+      relaid = event_relaid six_part lays closed shows (λ s ne. refl);
+      replies = deed_replies six_part lays closed shows (λ s ne. refl);
     }
 
 pub merge : WorkedMerge
@@ -292,3 +301,20 @@ rotation =
       others = λ r none. images_only four images r (omega arith);
     } in
     layout_relaid (four_part cut (refl, (refl, refl, refl), refl)) lays (order_pairs four (with_images four images) cut new refl)
+
+pub replacement : WorkedReplacement
+unfolding key_le
+replacement =
+    let cut : Cut = held (end 0) 6 (end 6) in
+    let images : List (ℕ × Node) = (6, holds 3 (from_to (codes "p") (codes "q")) 0 6) ∷ [] in
+    let top : Top = from_row 6 (Some (Bytes (codes "m")), None) in
+    let lays : Lays 1 0 top four (with_images four images) cut cut [] [] = record {
+      shows = (refl, refl, refl);
+      loose = (refl, refl, tt, tt);
+      pool = record { rest = 4; takes = refl; gives = refl };
+      rows = record { each = λ q. refl; all = refl };
+      link = refl;
+      others = λ r none. images_only four images r (omega arith);
+    } in
+    replaced six_part lays (refl, tt, tt)
+    (λ p h. elim h [ inl e ↦ subst (λ (q : Pair). IsInGap top q.range) (sym e) (refl, tt) | inr k ↦ absurd k ])

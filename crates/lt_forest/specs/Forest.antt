@@ -1,7 +1,7 @@
 -- A forest: below the anchor of each tree grows a search tree or a chain, below the pool's anchor a chain of vacant rows.
 -- The rows below trees are the trees' anchors, row trees is the pool's, and the others are the further rows. An anchor's
 -- left link leads to its tree's top row, to its chain's first row, or to the pool's first row.
-use Rattle.std.specs.Prelude.{◌≡◌, ◌≢◌, ℕ, ◌+◌, ◌<◌, List, [], ◌∷◌, length, nat_eq, if◌then◌else◌, None}
+use Rattle.std.specs.Prelude.{◌≡◌, ◌≢◌, ℕ, ◌+◌, ◌<◌, List, [], ◌∷◌, length, None}
 use Rattle.lt_seq.specs.declared.event.Pair.{Pair}
 use Rattle.lt_seq.specs.declared.event.Mode.{Mode}
 use Rattle.lt_seq.specs.declared.event.Mode.TheVariants.{Tree as TreeMode, Buffer}
@@ -69,6 +69,7 @@ pub record IsForest (trees rows : ℕ) (c : Nodes) (mode : ℕ → Mode) (state 
   -- each further row stands once, and no other row
   pub once : (r : ℕ) → trees < r → r < rows → stands trees f r ≡ 1
   pub further : (r : ℕ) → 0 < stands trees f r → (trees < r) × (r < rows)
+  -- rows that grow below the anchors, rows of the pool, and the anchors with the pool's are as many as there are rows
   pub many : total (λ t. length (rows_at (f.tree t))) trees + length f.pool + trees + 1 ≡ rows
 
 -- the row q stands in the search tree, and g lies within its gap
@@ -82,10 +83,6 @@ pub record IsPlaced (trees : ℕ) (c : Nodes) (mode : ℕ → Mode) (f : Forest)
   pub tree : t < trees
   pub gap : GapIn c (f.tree t) q g
   pub full : score ≡ 100 → mode t ≡ TreeMode 100
-
--- the forest with another growth below one anchor
-abbrev pub put : (ℕ → Growth) → ℕ → Growth → ℕ → Growth
-put tree t new s = if nat_eq s t then new else tree s
 
 -- only these rows may hold something else
 abbrev pub ChangesOnly : List ℕ → Nodes → Nodes → Type 0

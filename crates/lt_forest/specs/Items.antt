@@ -52,20 +52,6 @@ between [] x y = []
 between (row r ∷ rest) x y = between rest (Some r.range.right) y
 between (hang l ∷ rest) x y = (l, x, next_row rest y) ∷ between rest x y
 
--- a link hangs behind the last row
-abbrev pub EndsHanging : List Item → Type 0
-EndsHanging [] = ⊥
-EndsHanging (row r ∷ []) = ⊥
-EndsHanging (row r ∷ i ∷ is) = EndsHanging (i ∷ is)
-EndsHanging (hang l ∷ []) = Unit {0}
-EndsHanging (hang l ∷ i ∷ is) = EndsHanging (i ∷ is)
-
--- a link hangs before the first row
-abbrev pub BeginsHanging : List Item → Type 0
-BeginsHanging [] = ⊥
-BeginsHanging (row r ∷ is) = ⊥
-BeginsHanging (hang l ∷ is) = Unit {0}
-
 -- without the rows that fail the test
 abbrev pub sift : (PartRow → Bool) → List Item → List Item
 sift keep [] = []

@@ -3,7 +3,7 @@ use Rattle.std.specs.Prelude.{◌≡◌, ℕ, ◌+◌, List, [], ◌∷◌, ◌+
 use Rattle.lt_ranges.specs.Interval.{Interval, IsInterval, before}
 use Rattle.lt_seq.specs.declared.event.Pair.{Pair}
 use Rattle.lt_seq.specs.Pairs.{IsLawful, is_own, others, freed, count_freed, span, granted}
-use Rattle.lt_forest.specs.Changes.{Has}
+use Rattle.lt_forest.specs.Pairs.{Has}
 use Rattle.lt_forest.specs.declared.part.PartRow.{PartRow}
 use Rattle.lt_forest.specs.declared.part.Placed.{Placed}
 use Rattle.lt_forest.specs.Bounds.{Bound}

@@ -4,17 +4,18 @@ use Rattle.lt_ranges.specs.Interval.{Interval, overlap, whole}
 use Rattle.lt_seq.specs.declared.event.Pair.{Pair}
 use Rattle.lt_seq.specs.declared.event.Mode.{Mode}
 use Rattle.lt_seq.specs.declared.event.Deed.{Deed}
+use Rattle.lt_seq.specs.Pairs.{IsLawful}
 use Rattle.lt_seq.specs.Sound.{AllSound}
 use Rattle.lt_seq.specs.Table.{Setting, TreeState, tree_at, tree_of}
 use Rattle.lt_forest.specs.Counts.{times}
 use Rattle.lt_forest.specs.Bounds.{Gap}
-use Rattle.lt_forest.specs.Changes.{Has}
+use Rattle.lt_forest.specs.Pairs.{Has}
 use Rattle.lt_forest.specs.Trees.{Tree, leaf, Nodes, pairs_in, IsOrdered}
 use Rattle.lt_forest.specs.Paths.{Path, plug, front, back, lower, upper}
 use Rattle.lt_forest.specs.Cuts.{Cut, fill, bare, ends, AllEnds}
 use Rattle.lt_forest.specs.Visits.{IsVisited}
 use Rattle.lt_forest.specs.Forest.{Forest, search_tree, IsTree, IsForest, KeepsModes}
-use Rattle.lt_forest.specs.Plans.{after_deed, IsReplied, Top, from_anchor, from_row, IsInGap, IsPart, IsClosedFor, Lays, range_of, ShowsDeed, Relaid}
+use Rattle.lt_forest.specs.Plans.{after_deed, IsReplied, Top, from_anchor, from_row, IsInGap, IsPart, IsClosedFor, Lays, range_of, ShowsDeed, Relaid, ReplacedPart}
 
 -- the search trees of a forest are in order
 abbrev pub TreesAreOrdered : Type 0
@@ -66,8 +67,8 @@ EmptyTreeHasNone =
     (trees rows : ℕ) (c : Nodes) (mode : ℕ → Mode) (state : List TreeState) (f : Forest) (t : ℕ)
     → IsForest trees rows c mode state f → t < trees → IsTree (mode t) → (c t).left ≡ 0 → (tree_at state t).pairs ≡ []
 
--- A subtree may be replaced by another of the same hangs whose ranges ascend between the bounds of its place, where each tree
--- that hangs lies between its new bounds: the whole tree is in order again.
+-- A subtree may be replaced by another whose ranges ascend between the bounds of its place, where each tree that hangs below
+-- the new one lies between its bounds there: the whole tree is in order again.
 abbrev pub ReplacedIsInOrder : Type 0
 ReplacedIsInOrder =
     (c d : Nodes) (hung : ℕ → Tree) (path : Path) (cut new : Cut)
@@ -76,6 +77,16 @@ ReplacedIsInOrder =
     → IsOrdered d (bare new) (lower c path None) (upper c path None)
     → AllEnds (λ e. IsOrdered d (hung e.0) e.1 e.2) (ends d new (lower c path None) (upper c path None))
     → IsOrdered d (plug path (fill hung new)) None None
+
+-- A part may be laid anew with any ranges that ascend and lie in the seen gap, where the links that hang stay in their order
+-- between bounds that are no tighter: it is a forest again.
+abbrev pub PartIsReplaced : Type 0
+PartIsReplaced =
+    (trees rows : ℕ) (c d : Nodes) (mode : ℕ → Mode) (state : List TreeState) (f : Forest) (t : ℕ) (top : Top) (cut new : Cut)
+    (taken given : List ℕ)
+    → IsPart trees rows c mode state f t top cut → Lays trees t top c d cut new taken given → IsLawful (pairs_in d (bare new))
+    → ((p : Pair) → Has p (pairs_in d (bare new)) → IsInGap top p.range)
+    → ReplacedPart trees rows c d mode state f t top cut new
 
 -- A part that is closed for the range of a deed may be laid anew for it: where the new part shows what the deed makes of the
 -- old one, the forest is one of the table after the deed, and the deed's replies are the table's. The deed is an ask that is

@@ -8,14 +8,15 @@ use Rattle.lt_seq.specs.declared.event.Mode.TheVariants.{Tree as TreeMode, Buffe
 use Rattle.lt_seq.specs.declared.event.Reply.TheVariants.{Buffered}
 use Rattle.lt_seq.specs.declared.event.Deed.{Deed}
 use Rattle.lt_seq.specs.declared.event.Deed.TheVariants.{Ask}
+use Rattle.lt_seq.specs.Pairs.{IsLawful}
 use Rattle.lt_seq.specs.Sound.{AllSound}
 use Rattle.lt_seq.specs.Table.{Setting, TreeState, tree_at, tree_of, is_whole, used}
 use Rattle.lt_forest.specs.Bounds.{Gap}
-use Rattle.lt_forest.specs.Changes.{Has}
+use Rattle.lt_forest.specs.Pairs.{Has}
 use Rattle.lt_forest.specs.Trees.{Nodes, left_end, right_end, in_order, pairs_in}
 use Rattle.lt_forest.specs.Cuts.{Cut, bare}
 use Rattle.lt_forest.specs.Forest.{NoRow, Forest, IsTree, IsChain, AllOf, folded, IsForest, IsPlaced, KeepsModes, Becomes}
-use Rattle.lt_forest.specs.Plans.{after_deed, IsReplied, Top, from_anchor, IsSeen, IsClosedFor, range_of, Relaid}
+use Rattle.lt_forest.specs.Plans.{after_deed, IsReplied, Top, from_anchor, IsInGap, IsSeen, IsClosedFor, range_of, Relaid, ReplacedPart}
 use Rattle.lt_forest.specs.Buffers.{whole_free, Begins, Appends}
 use Rattle.lt_forest.specs.Links.{Slot, row_with, link_in, IsLinkOf, IsLink, Leads}
 use Rattle.lt_forest.specs.Views.{IsIn, Agrees, IsView, AllHeld, HoldsPart, PlanLays, PlanShows, PlansThese, PlanEnds, PlanDrops}
@@ -134,6 +135,16 @@ PlanServesLayout =
     → IsView (IsIn has) planned v v' c d → PlanLays (IsIn has) planned trees t top v v' cut new [] []
     → pairs_in v' (bare new) ≡ pairs_in v (bare cut)
     → Relaid trees rows c d mode mode state state f t top cut new
+
+-- and for any ranges that ascend and lie in the seen gap
+abbrev pub PlanServesReplacement : Type 0
+PlanServesReplacement =
+    (has : ℕ → Bool) (planned : List ℕ) (v v' : Nodes) (trees rows : ℕ) (c d : Nodes) (mode : ℕ → Mode)
+    (state : List TreeState) (f : Forest) (t : ℕ) (top : Top) (cut new : Cut) (taken given : List ℕ)
+    → IsForest trees rows c mode state f → AllSound state → t < trees → IsTree (mode t) → IsSeen c (f.tree t) top
+    → IsView (IsIn has) planned v v' c d → PlanLays (IsIn has) planned trees t top v v' cut new taken given
+    → IsLawful (pairs_in v' (bare new)) → ((p : Pair) → Has p (pairs_in v' (bare new)) → IsInGap top p.range)
+    → ReplacedPart trees rows c d mode state f t top cut new
 
 -- The same for buffers: one begins,
 abbrev pub PlanBegins : Type 0

@@ -20,7 +20,7 @@ pub record ShowsInOrder (placed : List Placed) (link : ℕ) (rows hangs : List �
   pub rows_are : in_order (bare cut) ≡ rows
   pub hangs_are : hangs_of cut ≡ hangs
 
--- and n of them stand at most one more than the logarithm of n below each other
+-- and n of them stand at most one more than the binary logarithm of n below each other
 pub record IsLayout (placed : List Placed) (link : ℕ) (rows hangs : List ℕ) : Type 0 where
   pub shown : ShowsInOrder placed link rows hangs
   pub balanced : 2 ^ depth shown.cut ≤ max 1 (2 * length rows)

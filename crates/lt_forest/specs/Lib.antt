@@ -1,6 +1,6 @@
 pub mod Counts
 pub mod Bounds
-pub mod Changes
+pub mod Pairs
 pub mod Trees
 pub mod Paths
 pub mod Cuts

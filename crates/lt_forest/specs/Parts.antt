@@ -21,14 +21,6 @@ hangs_of (held a r b) = hangs_of a ++ hangs_of b
 abbrev pub numbers : List PartRow → List ℕ
 numbers rows = map (λ r. r.row) rows
 
--- there is one more link than rows
-abbrev pub IsEven : List PartRow → List ℕ → Type 0
-IsEven [] [] = ⊥
-IsEven [] (l ∷ []) = Unit {0}
-IsEven [] (l ∷ m ∷ ls) = ⊥
-IsEven (r ∷ rows) [] = ⊥
-IsEven (r ∷ rows) (l ∷ ls) = IsEven rows ls
-
 -- the links other than 0 that hang, each between the rows that stand nearest
 abbrev pub hanging : List PartRow → List ℕ → Bound → Bound → List End
 hanging rows [] x y = []

@@ -37,9 +37,3 @@ abbrev pub upper : Nodes → Path → Bound → Bound
 upper c here y = y
 upper c (leftward w r b) y = upper c w (left_end c r)
 upper c (rightward a r w) y = upper c w y
-
--- the link that leads to the place
-abbrev pub last_link : Nodes → Path → ℕ → ℕ
-last_link c here link = link
-last_link c (leftward w r b) link = last_link c w (c r).left
-last_link c (rightward a r w) link = last_link c w (c r).right

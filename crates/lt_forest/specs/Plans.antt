@@ -1,16 +1,17 @@
 -- Parts of search trees, and plans that lay them anew. Here c is what the rows hold before a plan, and d after it.
-use Rattle.std.specs.Prelude.{◌≡◌, ℕ, ◌+◌, ◌<◌, List, ◌∷◌, ◌++◌, length, slice_set, Bool, false, None}
+use Rattle.std.specs.Prelude.{◌≡◌, ◌⊎◌, ℕ, ◌+◌, ◌<◌, List, ◌∷◌, ◌++◌, length, slice_set, None}
 use Rattle.lt_ranges.specs.Interval.{Interval, whole}
 use Rattle.lt_seq.specs.declared.event.Pair.{Pair}
 use Rattle.lt_seq.specs.declared.event.Mode.{Mode}
 use Rattle.lt_seq.specs.declared.event.Deed.{Deed}
 use Rattle.lt_seq.specs.declared.event.Deed.TheVariants.{Ask, Free, Who, Join}
+use Rattle.lt_seq.specs.Pairs.{IsLawful}
 use Rattle.lt_seq.specs.History.{IsQuestion}
 use Rattle.lt_seq.specs.Sound.{AllSound}
 use Rattle.lt_seq.specs.Table.{Setting, TreeState, tree_at, tree_of, tree_after, replied}
 use Rattle.lt_forest.specs.Counts.{times}
 use Rattle.lt_forest.specs.Bounds.{Gap, IsInside}
-use Rattle.lt_forest.specs.Changes.{IsLocal}
+use Rattle.lt_forest.specs.Pairs.{Has}
 use Rattle.lt_forest.specs.Trees.{Node, Nodes, in_order, pairs_in}
 use Rattle.lt_forest.specs.Cuts.{Cut, Shows, bare, IsRow, HasCutGap, ends, Looser, AllAside}
 use Rattle.lt_forest.specs.Forest.{Growth, Forest, IsTree, IsRun, IsForest, GapIn, ChangesOnly, Becomes}
@@ -110,12 +111,6 @@ pub record ShowsDeed (setting : Setting) (txn : ℕ) (deed : Deed) (c d : Nodes)
   pub replies : replied setting txn deed (shown_state c cut before) ≡ deed
   pub question : IsQuestion deed
 
--- either no pair is added or dropped, or those that are belong to a range for which the part is closed
-pub data IsCovered (top : Top) (c : Nodes) (cut : Cut) (added : Pair → Type 0) (dropped : Pair → Bool) : Type 0 where
-  same_pairs : ((p : Pair) → added p → ⊥) → ((p : Pair) → dropped p ≡ false) → IsCovered top c cut added dropped
-  in_range : (range : Interval) → IsClosedFor range top c cut → IsLocal range added dropped (pairs_in c (bare cut))
-      → IsCovered top c cut added dropped
-
 -- What a plan makes of the whole table: a forest of the table after, in which rows that aren't of the part keep their gaps,
 -- and those of the new part have the gaps that its links give them.
 pub record Relaid (trees rows : ℕ) (c d : Nodes) (mode mode' : ℕ → Mode) (state after : List TreeState) (f : Forest) (t : ℕ)
@@ -123,3 +118,15 @@ pub record Relaid (trees rows : ℕ) (c d : Nodes) (mode mode' : ℕ → Mode) (
   pub becomes : Becomes trees rows c d mode mode' state after f (λ q. IsRow q cut)
       (length (in_order (bare cut))) (length (in_order (bare new)))
   pub gaps : (q : ℕ) (g : Gap) → HasPartGap top new d q g → GapIn d (becomes.next.tree t) q g
+
+-- What a plan makes of the whole table where the part's rows get any ranges that fit: the tree's pairs are those that the new
+-- part shows, and of the old ones all that the old part didn't show.
+pub record ReplacedPart (trees rows : ℕ) (c d : Nodes) (mode : ℕ → Mode) (state : List TreeState) (f : Forest) (t : ℕ) (top : Top)
+    (cut new : Cut) : Type 0 where
+  pub pairs : List Pair
+  pub lawful : IsLawful pairs
+  pub has : (p : Pair) → Has p pairs
+      → Has p (pairs_in d (bare new)) ⊎ (Has p (tree_at state t).pairs × (Has p (pairs_in c (bare cut)) → ⊥))
+  pub shows : (p : Pair) → Has p (pairs_in d (bare new)) → Has p pairs
+  pub keeps : (p : Pair) → Has p (tree_at state t).pairs → Has p (pairs_in c (bare cut)) ⊎ Has p pairs
+  pub relaid : Relaid trees rows c d mode mode state (slice_set state t (record { pairs = pairs; mode = mode t })) f t top cut new

@@ -4,7 +4,7 @@ use Rattle.lt_ranges.specs.Interval.{Interval, IsInterval}
 use Rattle.lt_seq.specs.declared.event.Pair.{Pair}
 use Rattle.lt_forest.specs.Bounds.{Bound, Gap, IsAbove, IsBelow, Within}
 
--- what a row holds; a link is 0 for none, and else the number of a row and one
+-- what a row holds; a link is 0 for none, and else a row's number plus 1
 pub record Node : Type 0 where
   pub owner : ℕ
   pub range : Interval

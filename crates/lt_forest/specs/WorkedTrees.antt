@@ -10,12 +10,13 @@ use Rattle.lt_seq.specs.declared.event.Reply.TheVariants.{Granted}
 use Rattle.lt_seq.specs.declared.event.Deed.{Deed}
 use Rattle.lt_seq.specs.declared.event.Deed.TheVariants.{Ask, Free, Who, Join}
 use Rattle.lt_seq.specs.declared.event.Event.{Event}
+use Rattle.lt_seq.specs.History.{after, IsLegal}
 use Rattle.lt_seq.specs.Table.{Setting, TreeState, tree_at, replied}
 use Rattle.lt_forest.specs.Trees.{Node, Tree, leaf, node, Nodes}
 use Rattle.lt_forest.specs.Cuts.{Cut, end, held}
-use Rattle.lt_forest.specs.Forest.{Forest, search_tree}
+use Rattle.lt_forest.specs.Forest.{Forest, search_tree, IsForest}
 use Rattle.lt_forest.specs.Widenings.{Widens}
-use Rattle.lt_forest.specs.Plans.{Top, from_anchor, from_row, Relaid}
+use Rattle.lt_forest.specs.Plans.{Top, from_anchor, from_row, Relaid, ReplacedPart}
 
 -- the range from one text to another, and that of one text alone
 abbrev pub from_to : List ℕ → List ℕ → Interval
@@ -63,13 +64,19 @@ table_of pairs = record { pairs = pairs; mode = TreeMode 100 } ∷ []
 abbrev pub four_state : List TreeState
 four_state = table_of (pair 1 (at (codes "f")) ∷ pair 1 (at (codes "m")) ∷ pair 1 (at (codes "t")) ∷ pair 2 (at (codes "x")) ∷ [])
 
--- the history that led there
+-- a history that leads there
 abbrev pub four_events : List Event
 four_events =
     record { pass = 0; txn = 1; deed = Ask 0 (at (codes "m")) Granted }
     ∷ record { pass = 0; txn = 2; deed = Ask 0 (at (codes "x")) Granted }
     ∷ record { pass = 0; txn = 1; deed = Ask 0 (at (codes "f")) Granted }
     ∷ record { pass = 0; txn = 1; deed = Ask 0 (at (codes "t")) Granted } ∷ []
+
+-- The table is one that a legal history leads to, and the rows are a forest of it.
+pub record WorkedStart : Type 0 where
+  pub legal : IsLegal one_tree four_events
+  pub leads_there : after one_tree four_events ≡ four_state
+  pub forest : IsForest 1 9 four tree_modes four_state four_forest
 
 -- the nodes with the images of a plan, each with its row
 abbrev pub with_images : Nodes → List (ℕ × Node) → Nodes
@@ -134,3 +141,10 @@ WorkedRotation =
     tree_modes tree_modes four_state four_state four_forest 0 from_anchor
     (held (held (end 0) 2 (end 0)) 4 (end 7))
     (held (end 0) 2 (held (end 0) 4 (end 7)))
+
+-- Row 6 gets another owner and "p" to "q" in place of "t": the range lies in the gap above "m" and ends no later than "t" did,
+-- before what hangs behind it.
+abbrev pub WorkedReplacement : Type 0
+WorkedReplacement =
+    ReplacedPart 1 9 four (with_images four ((6, holds 3 (from_to (codes "p") (codes "q")) 0 6) ∷ [])) tree_modes four_state four_forest 0
+    (from_row 6 (Some (Bytes (codes "m")), None)) (held (end 0) 6 (end 6)) (held (end 0) 6 (end 6))

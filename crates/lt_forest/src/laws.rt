@@ -1,10 +1,10 @@
 //! Laws of the forest. Each function's contract is a law over the definitions; the bodies are empty.
 ghost use Rattle.lt_forest.specs.LawsOfGaps.{RowsHaveOneGap, LeftChildsGap, RightChildsGap, SeenIsWithin, TopIsSeen, LeftIsSeen, RightIsSeen};
-ghost use Rattle.lt_forest.specs.LawsOfParts.{TreesAreOrdered, ReplacedIsInOrder, VisitLeavesOutNone, VisitedIsClosed, ClosedPartHasAll, PartShowsPairs, WholePartShowsAll, EmptyTreeHasNone, PartIsLaidForDeed, PartIsLaidAgain, TopRowStays};
+ghost use Rattle.lt_forest.specs.LawsOfParts.{TreesAreOrdered, ReplacedIsInOrder, VisitLeavesOutNone, VisitedIsClosed, ClosedPartHasAll, PartShowsPairs, WholePartShowsAll, EmptyTreeHasNone, PartIsReplaced, PartIsLaidForDeed, PartIsLaidAgain, TopRowStays};
 ghost use Rattle.lt_forest.specs.LawsOfBuffers.{ChainShowsBuffer, FrontIsGranted, BufferBegins, BufferGrows, BufferEnds, BufferIsDropped, OwnerIsAlone};
 ghost use Rattle.lt_forest.specs.LawsOfRows.{RowsAddUp, VacantIsThere, OpeningIsForest, LinksNameFurther, NoneIsNamedTwice, NoneLeadsBack, NoneOfPoolLeadsBack, PoolIsApart, GapRowsAreLinked, PartRowsAreLinked, RunRowsAreLinked, PoolRowsAreLinked};
 ghost use Rattle.lt_forest.specs.LawsOfOrder.{EndsAreHanging, EndsAreBetween, SameOrderKeeps, LeavingOutLoosens, MergingLoosens, PartWidens, PlacedShows, MiddleDecides, OwnBecomeOne};
-ghost use Rattle.lt_forest.specs.LawsOfViews.{TopIsRead, LeftIsRead, RightIsRead, ReadLinksNameFurther, NoneIsReadTwice, NoneIsReadBack, PoolIsReadApart, VacantIsRead, HeldPartShowsPairs, HeldPartHasAll, HeldWholeShowsAll, HeldChainShowsBuffer, PlanServesDeed, PlanServesLayout, PlanBegins, PlanAppends, PlanEndsBuffer, PlanDropsBuffer};
+ghost use Rattle.lt_forest.specs.LawsOfViews.{TopIsRead, LeftIsRead, RightIsRead, ReadLinksNameFurther, NoneIsReadTwice, NoneIsReadBack, PoolIsReadApart, VacantIsRead, HeldPartShowsPairs, HeldPartHasAll, HeldWholeShowsAll, HeldChainShowsBuffer, PlanServesDeed, PlanServesLayout, PlanServesReplacement, PlanBegins, PlanAppends, PlanEndsBuffer, PlanDropsBuffer};
 
 /// Every row of a search tree has one gap, and a child's gap is its parent's, cut at the parent's range.
 pub fn gaps_of_rows()
@@ -36,6 +36,12 @@ pub fn closed_parts()
     ensures shown { PartShowsPairs }
     ensures whole { WholePartShowsAll }
     ensures empty { EmptyTreeHasNone }
+{}
+
+/// A part may be laid anew with any ranges that ascend, stay in the gap and stay between what hangs: it is a forest again. Its
+/// tree's pairs are the new part's and those that the old part didn't show, and all other rows keep their gaps.
+pub fn part_is_replaced()
+    ensures { PartIsReplaced }
 {}
 
 /// A closed part may be laid anew for an ask that is granted or held, a free, a question who holds and a join: the forest is
@@ -144,10 +150,12 @@ pub fn pairs_that_are_read()
     ensures chain { HeldChainShowsBuffer }
 {}
 
-/// What a plan owes for a deed in Tree mode, or for a change of layout, is read off what its pass holds.
+/// What a plan owes for a deed in Tree mode, for a change of layout, or for any ranges that fit, is read off what its pass
+/// holds.
 pub fn plans_for_trees()
     ensures deed { PlanServesDeed }
     ensures layout { PlanServesLayout }
+    ensures replaced { PlanServesReplacement }
 {}
 
 /// And so is what it owes where it begins a buffer, adds to one, ends one or drops one.

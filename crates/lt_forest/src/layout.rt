@@ -18,7 +18,7 @@ pub struct Layout {
 
 /// Places the rows below one link, the middle one at the top, and gives that link.
 fn place(rows: &[PartRow], hangs: &[u32], placed: &mut Vec<Placed>) -> Result<u32, AllocError>
-    requires even { length hangs.now ≡ length rows.now + 1 }
+    requires hangs_between { length hangs.now ≡ length rows.now + 1 }
     requires small { All (λ (r : PartRow). r.row < 2 ^ 32 - 1) rows.now }
     ensures { IfOk result (λ link. LaysOut placed.old.items placed.new.items link (numbers rows.now) hangs.now) }
 {
@@ -34,12 +34,12 @@ fn place(rows: &[PartRow], hangs: &[u32], placed: &mut Vec<Placed>) -> Result<u3
 }
 
 /// Lays a part out as a balanced tree that shows the same rows and hangs in key order. Of n rows at most one more than the
-/// logarithm of n stand below each other.
+/// binary logarithm of n stand below each other.
 ///
 /// The part has one more hang than rows, and each row's number is below 2^32 - 1, so that a link can name it. The one error
 /// is want of memory.
 pub fn lay_out(alloc: Global, part: &Part) -> Result<Layout, AllocError>
-    requires even { length part.now.hangs.items ≡ length part.now.rows.items + 1 }
+    requires hangs_between { length part.now.hangs.items ≡ length part.now.rows.items + 1 }
     requires small { All (λ (r : PartRow). r.row < 2 ^ 32 - 1) part.now.rows.items }
     ensures { IfOk result (λ layout. IsLayout layout.placed.items layout.top (numbers part.now.rows.items) part.now.hangs.items) }
 {

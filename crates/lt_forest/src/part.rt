@@ -17,11 +17,11 @@ pub struct PartRow {
 pub struct Part {
     /// The rows, by ascending ranges.
     pub rows: Vec<PartRow>,
-    /// Links, one more than rows: 0 where nothing hangs, and else the number of a subtree's top row and one.
+    /// Links, one more than rows: 0 where nothing hangs, and else the number of a subtree's top row plus 1.
     pub hangs: Vec<u32>,
 }
 
-/// A row with the links that it is to hold: 0 for none, and else the number of a row and one.
+/// A row with the links that it is to hold: 0 for none, and else a row's number plus 1.
 #[derive(Clone, Copy, Debug, PartialEq, Eq)]
 pub struct Placed {
     /// The row's number in its table.

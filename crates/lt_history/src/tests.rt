@@ -1,8 +1,8 @@
-// The text of events and outcomes that no run of today makes.
+//! The text of events and outcomes, most of which no run of today makes.
 use crate::{Ended, Outcome, print};
 use lt_ranges::{Key, KeyRange};
 use lt_requests::{Cycle, Edge};
-use lt_seq::{Deed, Event, Owners, Receipt};
+use lt_seq::{Deed, Event, Owners, Receipt, Reply};
 use std::test::Fail;
 
 fn edge(waiter: u64, holder: u64) -> Edge {
@@ -13,11 +13,29 @@ fn edge(waiter: u64, holder: u64) -> Edge {
     }
 }
 
+fn range_of(text: &[u8]) -> Result<KeyRange, Fail> {
+    let range = KeyRange::new(Key::new(text)?, Key::new(text)?)?;
+    Ok(range)
+}
+
+fn who(range: KeyRange, as_txn: u64, owners: Vec<u64>) -> Deed {
+    Deed::Who {
+        tree: 0,
+        range,
+        as_txn,
+        owners: Owners::of(owners),
+    }
+}
+
 fn receipt(place: u64, txn: u64, deed: Deed) -> Receipt {
     Receipt {
         place,
         event: Event { pass: 0, txn, deed },
     }
+}
+
+fn ended(txn: u64, outcome: Outcome) -> Ended {
+    Ended { txn, outcome }
 }
 
 #[test]
@@ -28,39 +46,45 @@ fn nothing_at_all_has_a_last_line(rt: HostRuntime) -> Result<(), Fail> {
 }
 
 #[test]
-fn questions_joins_and_ways_to_end(rt: HostRuntime) -> Result<(), Fail> {
+fn buffered_asks_questions_and_joins(rt: HostRuntime) -> Result<(), Fail> {
     let alloc = rt.alloc();
-    let range = KeyRange::new(Key::new(b"c")?, Key::new(b"c")?)?;
-    let who = Deed::Who {
+    let buffered = Deed::Ask {
         tree: 0,
-        range,
-        as_txn: 2,
-        owners: Owners::of(Vec::new(alloc)),
+        range: range_of(b"a")?,
+        reply: Reply::Buffered,
     };
     let join = Deed::Join {
         tree: 0,
         before: 4,
         after: 2,
     };
+    let mut owner = Vec::new(alloc);
+    owner.push(2)?;
     let mut receipts = Vec::new(alloc);
+    receipts.push(receipt(0, 1, buffered))?;
     receipts.push(receipt(4, 1, join))?;
-    receipts.push(receipt(10, 1, who))?;
+    receipts.push(receipt(4, 2, who(range_of(b"b")?, 1, owner)))?;
+    receipts.push(receipt(10, 1, who(range_of(b"c")?, 2, Vec::new(alloc))))?;
+    let text = print(alloc, &receipts, &[], 11, 0)?;
+    let expected = b"0 1 ask 0 \"a\" \"a\" buffered\n4 1 join 0 4 2\n\
+        4 2 who 0 \"b\" \"b\" 1 held by 2\n10 1 who 0 \"c\" \"c\" 2 held by none\nend 11 0\n";
+    assert_eq!(rt; text.as_slice(), expected.as_slice());
+    Ok(())
+}
+
+#[test]
+fn ways_to_end(rt: HostRuntime) -> Result<(), Fail> {
+    let alloc = rt.alloc();
     let mut walk = Vec::new(alloc);
     walk.push(edge(3, 1))?;
     walk.push(edge(1, 2))?;
     walk.push(edge(2, 3))?;
     let mut outcomes = Vec::new(alloc);
-    outcomes.push(Ended {
-        txn: 2,
-        outcome: Outcome::OutOfLocks { place: 3, used: 2 },
-    })?;
-    outcomes.push(Ended {
-        txn: 3,
-        outcome: Outcome::Deadlock(Cycle::of(walk)),
-    })?;
-    let text = print(alloc, &receipts, &outcomes, 11, 0)?;
-    let expected = b"4 1 join 0 4 2\n10 1 who 0 \"c\" \"c\" 2 held by none\n\
-        txn 2 outoflocks 3 2\ntxn 3 deadlock 3 1 2 3\nend 11 0\n";
+    outcomes.push(ended(1, Outcome::Aborted))?;
+    outcomes.push(ended(2, Outcome::OutOfLocks { place: 3, used: 2 }))?;
+    outcomes.push(ended(3, Outcome::Deadlock(Cycle::of(walk))))?;
+    let text = print(alloc, &[], &outcomes, 11, 0)?;
+    let expected = b"txn 1 aborted\ntxn 2 outoflocks 3 2\ntxn 3 deadlock 3 1 2 3\nend 11 0\n";
     assert_eq!(rt; text.as_slice(), expected.as_slice());
     Ok(())
 }

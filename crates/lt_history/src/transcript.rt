@@ -1,12 +1,12 @@
 //! The transcript: the text of a run.
 ghost use Rattle.std.specs.Prelude.{◌≡◌, ◌++◌, OnOk, IfOk};
 ghost use Rattle.std.specs.List.{flat_map};
-ghost use Rattle.lt_ranges.specs.KeyText.{key_text, range_text, spaced};
+ghost use Rattle.lt_ranges.specs.KeyText.{spaced};
 ghost use Rattle.lt_history.specs.Text.{held_by, reply_text, holders_text, deed_text, event_line, walk_text, out_of_locks_text, outcome_text, ended_line, end_line, text};
 
 use crate::outcome::{Ended, Outcome};
 use itoa::Buffer;
-use lt_ranges::{Key, KeyRange};
+use lt_ranges::{push_range, push_spaced};
 use lt_requests::Edge;
 use lt_seq::{Deed, Receipt, Reply};
 use std::alloc::{AllocError, Global};
@@ -29,16 +29,6 @@ pub fn print(
     Ok(out)
 }
 
-/// Writes a space and a number.
-fn push_spaced(out: &mut Vec<u8>, n: u64) -> Result<(), AllocError>
-    ensures { OnOk result (out.new.items ≡ out.old.items ++ spaced n) }
-{
-    let mut buffer = Buffer::new();
-    out.extend_from_slice(b" ")?;
-    out.extend_from_slice(buffer.format(n).as_bytes())?;
-    Ok(())
-}
-
 /// Writes the last line.
 fn push_end(out: &mut Vec<u8>, count: u64, used: u64) -> Result<(), AllocError>
     ensures { OnOk result (out.new.items ≡ out.old.items ++ end_line count used) }
@@ -47,25 +37,6 @@ fn push_end(out: &mut Vec<u8>, count: u64, used: u64) -> Result<(), AllocError>
     push_spaced(out, count)?;
     push_spaced(out, used)?;
     out.extend_from_slice(b"\n")?;
-    Ok(())
-}
-
-/// Writes a key.
-fn push_key(out: &mut Vec<u8>, key: &Key) -> Result<(), AllocError>
-    ensures { OnOk result (out.new.items ≡ out.old.items ++ key_text key.now) }
-{
-    out.extend_from_slice(key.text().as_slice())?;
-    Ok(())
-}
-
-/// Writes a range.
-fn push_range(out: &mut Vec<u8>, range: &KeyRange) -> Result<(), AllocError>
-    ensures { OnOk result (out.new.items ≡ out.old.items ++ range_text range.now) }
-{
-    out.extend_from_slice(b" ")?;
-    push_key(out, &range.left())?;
-    out.extend_from_slice(b" ")?;
-    push_key(out, &range.right())?;
     Ok(())
 }
 

@@ -8,7 +8,7 @@ abbrev pub walks : ℕ → List Edge → ℕ → ℕ → List (List Edge)
 walks zero edges from to = if from == to then [] ∷ [] else []
 walks (suc n) edges from to = flat_map (λ e. map (λ walk. e ∷ walk) (walks n edges e.holder to)) (filter (λ e. e.waiter == from) edges)
 
--- the first walk back to the transaction among those with the fewest edges, but no more than n beyond those it begins with
+-- the first walk back to the transaction among those with the fewest edges: tries n numbers of edges, from least on
 abbrev pub shortest : ℕ → ℕ → List Edge → ℕ → Option (List Edge)
 shortest zero least edges txn = None
 shortest (suc n) least edges txn = first_or (walks least edges txn txn) (shortest n (suc least) edges txn)
@@ -17,5 +17,7 @@ shortest (suc n) least edges txn = first_or (walks least edges txn txn) (shortes
     first_or [] other = other
     first_or (walk ∷ walks) other = Some walk
 
+-- A shortest walk from the transaction back to it, which has no more edges than the graph. Where the edges of one waiter stand
+-- by ascending holder, it is the lexicographically least of the shortest.
 abbrev pub cycle_of : List Edge → ℕ → Option (List Edge)
 cycle_of edges txn = shortest (length edges) 1 edges txn

@@ -14,7 +14,8 @@ pub struct Edge {
     pub place: u64,
 }
 
-/// A closed walk of edges: each begins where the one before it ends, and the last ends where the first begins.
+/// Edges in the order of a walk. Whoever makes it sees that it is closed: that each begins where the one before it ends, and
+/// the last ends where the first begins.
 #[derive(Debug, Drop)]
 pub struct Cycle {
     edges: Vec<Edge>,

@@ -5,7 +5,7 @@ use Rattle.lt_forest.proofs.LayoutLaws.{lays_one, lays_middle}
 use Rattle.lt_forest.proofs.layout.+place.Goals as goal
 
 pub returns-then-is_empty : goal.returns-then-is_empty
-returns-then-is_empty t c = lays_one c.args.placed.now.items c.args.rows.now c.args.hangs.now c.requires.even
+returns-then-is_empty t c = lays_one c.args.placed.now.items c.args.rows.now c.args.hangs.now c.requires.hangs_between
     (eqb-true (length c.args.rows.now) 0 (sym c.is_empty.ensures ∙ c.if-is_empty.true))
 
 pub returns : goal.returns

@@ -1,14 +1,10 @@
 -- What a change of pairs makes of a list: some are dropped and some are added.
-use Rattle.std.specs.Prelude.{◌≡◌, ◌⊎◌, List, [], ◌∷◌, Bool, true, false}
+use Rattle.std.specs.Prelude.{◌≡◌, ◌⊎◌, List, Bool, true, false}
 use Rattle.lt_ranges.specs.Interval.{Interval, overlap}
 use Rattle.lt_seq.specs.declared.event.Pair.{Pair}
 use Rattle.lt_seq.specs.Pairs.{IsLawful}
 use Rattle.lt_forest.specs.Bounds.{Bound, IsInside}
-
--- the pair stands in the list
-abbrev pub Has : Pair → List Pair → Type 0
-Has p [] = ⊥
-Has p (q ∷ qs) = (p ≡ q) ⊎ Has p qs
+use Rattle.lt_forest.specs.Pairs.{Has}
 
 -- the new list is lawful, and has the added pairs and the old ones that aren't dropped
 pub record Change (added : Pair → Type 0) (dropped : Pair → Bool) (old new : List Pair) : Type 0 where
