@@ -5,7 +5,8 @@ use Rattle.std.specs.List.Sorted.{IsStrictlySortedBy}
 use Rattle.std.specs.Ordering.{nat_cmp}
 use Rattle.lt_ranges.specs.Numbers.{is_in}
 use Rattle.lt_ranges.specs.Interval.{Interval}
-use Rattle.lt_seq.specs.declared.event.Deed.TheVariants.{Ask, Free}
+use Rattle.lt_seq.specs.declared.event.Deed.{Deed}
+use Rattle.lt_seq.specs.declared.event.Deed.TheVariants.{Ask, Free, Who, Join}
 use Rattle.lt_seq.specs.declared.event.Reply.TheVariants.{Granted}
 use Rattle.lt_seq.specs.declared.event.Event.{Event}
 use Rattle.lt_seq.specs.Table.{Setting, used}
@@ -47,6 +48,13 @@ IsPlain setting End = Unit {0}
 IsPlain setting Abort = ⊥
 IsPlain setting (Escalate tree) = ⊥
 IsPlain setting Big = ⊥
+
+-- the deed is an ask
+abbrev pub IsAsk : Deed → Type 0
+IsAsk (Ask tree range reply) = Unit {0}
+IsAsk (Free tree range first count) = ⊥
+IsAsk (Who tree range named owners) = ⊥
+IsAsk (Join tree before after) = ⊥
 
 -- a turn with the history
 pub record Step : Type 0 where

@@ -1,12 +1,12 @@
 //! Transactions as they are played.
 ghost use Rattle.std.specs.Prelude.{◌≡◌, ◌<◌, ◌≤◌, [], ◌∷◌, ◌++◌, None, Some, false, length, replicate, slice_set, slice_index_or, IfOk, OnOk, is_some};
-ghost use Rattle.lt_runner.specs.Turn.{answered_by, nothing_recorded, reply_in};
+ghost use Rattle.lt_runner.specs.Turn.{answered_by, nothing_recorded};
 ghost use Rattle.lt_runner.specs.Serial.{ended_in};
 ghost use Rattle.lt_runner.specs.AtOnce.{fresh_turn};
 
 use lt_history::{Ended, Outcome};
 use lt_ranges::KeyRange;
-use lt_seq::{Deed, Reply};
+use lt_seq::Reply;
 use std::alloc::{AllocError, Global};
 use std::marker::Model;
 
@@ -105,23 +105,17 @@ impl Turn {
         &mut self,
         tree: u32,
         range: &KeyRange,
-        deed: &Deed,
+        reply: &Reply,
     ) -> Result<(), AllocError>
         requires tree { tree < length self.old.recorded }
         requires lines { self.old.lines ≡ [] }
         requires waits { self.old.waits ≡ false }
-        ensures { OnOk result (self.new ≡ answered_by tree range.now (reply_in deed.now) self.old) }
+        ensures { OnOk result (self.new ≡ answered_by tree range.now reply.now self.old) }
     {
-        let buffered = match deed {
-            Deed::Ask {
-                reply: Reply::HeldBy(_),
-                ..
-            } => return Ok(()),
-            Deed::Ask {
-                reply: Reply::Buffered,
-                ..
-            } => true,
-            _ => false,
+        let buffered = match reply {
+            Reply::Granted => false,
+            Reply::Buffered => true,
+            Reply::HeldBy(_) => return Ok(()),
         };
         self.recorded[tree as usize].add(range, buffered)
     }
