@@ -7,6 +7,7 @@ use Rattle.lt_seq.specs.declared.event.Event.{Event}
 use Rattle.lt_seq.specs.Table.{Setting, used}
 use Rattle.lt_seq.specs.History.{after}
 use Rattle.lt_seq.specs.Questions.{all_receipts}
+use Rattle.lt_seq.proofs.LocksLaws.{keeps_locks}
 use Rattle.lt_trace.specs.declared.line.Line.{Line}
 use Rattle.lt_trace.specs.Trace.{TraceView}
 use Rattle.lt_trace.specs.Grammar.{IsTrace, txns_of}
@@ -24,10 +25,9 @@ use Rattle.lt_runner.proofs.OpeningLaws.{opening_turns}
 use Rattle.lt_runner.proofs.OrderLaws.{ascending_sorted}
 use Rattle.lt_runner.proofs.TraceLaws.{lines_of_trace, ranges_of_trace}
 use Rattle.lt_runner.proofs.FollowLaws.{Follows, IsPlainMove, in_play}
-use Rattle.lt_runner.proofs.GrowthLaws.{IsNoJoin, AsksRange}
+use Rattle.lt_runner.proofs.GrowthLaws.{AsksRange}
 use Rattle.lt_runner.proofs.RunLaws.{IsOf}
 use Rattle.lt_runner.proofs.WholeLaws.{IsFit, EndsAt, whole_run}
-use Rattle.lt_runner.proofs.LocksLaws.{keeps_locks}
 
 -- The plays of turns that have ended.
 
@@ -96,10 +96,6 @@ of_others : (txns : List ℕ) (events : List Event) → AllByRecursion (IsOf txn
 of_others txns [] all = tt
 of_others txns (e ∷ es) all = (all.0.0, of_others txns es all.1)
 
-of_no_join : (txns : List ℕ) (events : List Event) → AllByRecursion (IsOf txns) events → AllByRecursion (λ e. IsNoJoin e.deed) events
-of_no_join txns [] all = tt
-of_no_join txns (e ∷ es) all = (all.0.1, of_no_join txns es all.1)
-
 all_fit : (setting : Setting) (txns : List ℕ) (lines : List Line) → All (IsOfTrace setting) lines → All (λ line. IsTrue (is_in line.txn txns)) lines → AllByRecursion (λ line. AsksRange line.deed) lines →
     AllByRecursion (IsFit setting txns) lines
 all_fit setting txns [] all there ranges = tt
@@ -132,7 +128,7 @@ text_of trace first done =
       events,
       made.plays,
       run,
-      keeps_locks setting events runs.legal (of_no_join (txns_of lines) events own),
+      keeps_locks setting events runs.legal,
       ap (λ (game : Game). ran_text (ran setting game)) done.leads.is
           ∙ ap (λ (outcomes : List Ended). text (all_receipts first events) outcomes (length events) (used (after setting events))) (sym made.outcomes),
     )

@@ -14,5 +14,4 @@ pub mod GrowthLaws
 pub mod RunLaws
 pub mod WholeLaws
 pub mod OrderLaws
-pub mod LocksLaws
 pub mod HeadlineLaws

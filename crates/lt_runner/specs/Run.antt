@@ -1,16 +1,12 @@
 -- Whole runs: one legal history in which each transaction is played to its end.
-use Rattle.std.specs.Prelude.{◌≡◌, ◌≢◌, ℕ, ◌<◌, List, [], ◌∷◌, ◌++◌, map, length, take, take_while, Some, IfSome, Bool, true, nat_lt, nat_le, IsTrue}
+use Rattle.std.specs.Prelude.{◌≡◌, ◌≢◌, ℕ, ◌<◌, List, ◌∷◌, map, length, take_while, Some, IfSome, Bool, true, nat_lt, nat_le, IsTrue}
 use Rattle.std.specs.List.{AllByRecursion, list_all}
-use Rattle.lt_ranges.specs.Interval.{Interval}
 use Rattle.lt_ranges.specs.Numbers.{is_in}
-use Rattle.lt_seq.specs.declared.event.Deed.TheVariants.{Ask, Join}
-use Rattle.lt_seq.specs.declared.event.Reply.TheVariants.{HeldBy}
 use Rattle.lt_seq.specs.declared.event.Event.{Event}
-use Rattle.lt_seq.specs.Pairs.{others, IsLawful}
-use Rattle.lt_seq.specs.Table.{Setting, tree_at, used}
+use Rattle.lt_seq.specs.Table.{Setting, used}
 use Rattle.lt_seq.specs.History.{after, IsLegal}
 use Rattle.lt_seq.specs.Questions.{all_receipts}
-use Rattle.lt_seq.specs.Joins.{Joins}
+use Rattle.lt_seq.specs.KeepsLocks.{KeepsLocks}
 use Rattle.lt_trace.specs.declared.line.Line.{Line}
 use Rattle.lt_trace.specs.Grammar.{txns_of}
 use Rattle.lt_requests.specs.declared.wish.Wish.{Wish}
@@ -74,19 +70,6 @@ pub record IsRun (crew : Bool) (setting : Setting) (lines : List Line) (history 
   pub played : AllByRecursion (λ play. Plays crew setting lines history play.txn play.outcome play.moves) plays
   pub others : AllByRecursion (λ e. IsTrue (is_in e.txn (txns_of lines))) history
   pub searches : AllByRecursion (λ play. AllByRecursion (IsSearchedRightly setting lines plays play.txn) play.moves) plays
-
--- What holds of the table at every point.
-pub record KeepsLocks (setting : Setting) (history : List Event) : Type 0 where
-  -- no two transactions hold overlapping ranges
-  pub lawful : (k : ℕ) (tree : ℕ) → IsLawful (tree_at (after setting (take k history)) tree).pairs
-  -- a refusal names exactly the other owners that overlap, and there is one
-  pub refused : (before : List Event) (e : Event) (behind : List Event) (tree : ℕ) (range : Interval) (owners : List ℕ) →
-      history ≡ before ++ e ∷ behind → e.deed ≡ Ask tree range (HeldBy owners) →
-      (owners ≡ others e.txn range (tree_at (after setting before) tree).pairs) × (owners ≢ [])
-  -- escalation takes no held key away and gives none that another holds
-  pub escalated : (before : List Event) (e : Event) (behind : List Event) (tree n m : ℕ) →
-      history ≡ before ++ e ∷ behind → e.deed ≡ Join tree n m →
-      Joins setting.marks (tree_at (after setting before) tree).pairs (tree_at (after setting (before ++ e ∷ [])) tree).pairs
 
 -- the text of a run
 abbrev pub run_text : Setting → List Event → List Play → List ℕ

@@ -8,4 +8,5 @@ pub mod Alone
 pub mod Passes
 pub mod Questions
 pub mod Joins
+pub mod KeepsLocks
 pub mod SeqPass

@@ -15,6 +15,7 @@ ghost use Rattle.lt_seq.specs.declared.event.Receipt.{Receipt};
 ghost use Rattle.lt_seq.specs.declared.fault.Fault.{Fault};
 ghost use Rattle.lt_seq.specs.Joins.{Joins, holds};
 ghost use Rattle.lt_seq.specs.Sound.{IsLawfulTable};
+ghost use Rattle.lt_seq.specs.KeepsLocks.{KeepsLocks};
 ghost use Rattle.lt_seq.specs.Rows.{WorkedRows};
 ghost use Rattle.lt_seq.specs.Table.{Setting, TreeState, opening, step, tree_at, used};
 ghost use Rattle.lt_seq.specs.History.{after, IsLegal, IsNext, calls_from};
@@ -60,6 +61,12 @@ pub fn refusals()
 pub fn joined_keeps()
     ensures joins { (marks : List Key) (pairs : List Pair) → IsLawful pairs → Joins marks pairs (joined marks pairs) }
     ensures others { (marks : List Key) (a b : ℕ) (key : Key) (pairs : List Pair) → IsLawful pairs → holds a key pairs ≡ true → holds b key (joined marks pairs) ≡ true → a ≡ b }
+{}
+
+/// A legal history keeps the locks: at every point no two transactions hold overlapping ranges, a refusal names exactly
+/// the other owners that overlap, and a join takes no held key away and gives none that another holds.
+pub fn legal_histories_keep_locks()
+    ensures { (setting : Setting) (history : List Event) → IsLegal setting history → KeepsLocks setting history }
 {}
 
 /// The answers to a pass that has all the rights, in any yard: one event more, at once, or want of memory, or a full
