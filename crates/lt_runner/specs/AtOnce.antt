@@ -1,4 +1,5 @@
--- What a line comes to where no turn waits: all of it happens at once.
+-- What a line comes to where no turn waits: all of it happens at once. For proofs and private functions; no public clause
+-- speaks of it.
 use Rattle.std.specs.Prelude.{◌≡◌, ℕ, ◌+◌, ◌^◌, ◌<◌, ◌≤◌, List, [], ◌∷◌, ◌++◌, length, map, sum_by, replicate, Some, None, false, is_some, nat_lt, if◌then◌else◌, IsTrue}
 use Rattle.std.specs.List.{All}
 use Rattle.std.specs.List.Sorted.{IsStrictlySortedBy}

@@ -12,7 +12,7 @@ use std::marker::Model;
 
 /// What a transaction was granted in a tree.
 #[derive(Debug, Drop)]
-pub struct Recorded {
+pub(crate) struct Recorded {
     pub(crate) ranges: Vec<KeyRange>,
     /// Whether the last grant went into a buffer, which one free gives back whole.
     pub(crate) buffered: bool,
@@ -58,7 +58,7 @@ fn nothing_recorded(alloc: Global, trees: u32) -> Result<Vec<Recorded>, AllocErr
 
 /// A transaction that is played. Each of its lines is played at once.
 #[derive(Debug, Drop)]
-pub struct Turn {
+pub(crate) struct Turn {
     pub(crate) txn: u64,
     /// By tree.
     pub(crate) recorded: Vec<Recorded>,
