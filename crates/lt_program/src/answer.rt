@@ -13,7 +13,7 @@ use std::alloc::{AllocError as OutOfMemory, Global};
 
 /// What is to be written.
 #[derive(Debug, Drop)]
-pub enum Answer {
+pub(crate) enum Answer {
     /// The text of the command's work.
     Text(Vec<u8>),
     /// The line that refuses the bytes, since they are no trace.
@@ -21,7 +21,11 @@ pub enum Answer {
 }
 
 /// The answer of a command to the bytes that were read.
-pub fn answer_to(alloc: Global, command: Command, bytes: &[u8]) -> Result<Answer, OutOfMemory>
+pub(crate) fn answer_to(
+    alloc: Global,
+    command: Command,
+    bytes: &[u8],
+) -> Result<Answer, OutOfMemory>
     ensures { IfOk result (IsAnswer command bytes.now) }
 {
     match read(alloc, bytes) {

@@ -1,8 +1,8 @@
 //! The program as one call: words and bytes in, bytes and a status out.
 #![tactic(auto)]
 
-pub mod answer;
-pub mod refusal;
+mod answer;
+mod refusal;
 pub mod running;
 pub mod status;
 pub mod words;

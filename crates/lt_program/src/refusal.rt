@@ -6,7 +6,7 @@ use lt_trace::TraceFault;
 use std::alloc::{AllocError as OutOfMemory, Global};
 
 /// The line of a fault: the number of the faulty line, and the fault's code and name.
-pub fn refusal_line(alloc: Global, fault: &TraceFault) -> Result<Vec<u8>, OutOfMemory>
+pub(crate) fn refusal_line(alloc: Global, fault: &TraceFault) -> Result<Vec<u8>, OutOfMemory>
     requires { fault.now ≢ TraceFault.OutOfMemory }
     ensures { IfOk result (λ out. out.items ≡ fault_text fault.now) }
 {

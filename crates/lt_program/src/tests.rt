@@ -16,12 +16,12 @@ const HELD_LINES: &str = "1 try 0 \"a\" \"c\"\n2 try 0 \"c\" \"e\"\n";
 const HELD_TEXT: &str =
     "0 1 ask 0 \"a\" \"c\" granted\n1 2 ask 0 \"c\" \"e\" held by 1\n2 1 free 0 \"a\" \"c\" 1\ntxn 1 done\ntxn 2 done\nend 3 0\n";
 
-fn words_of(alloc: Global, line: &str) -> Result<Vec<String>, AllocError> {
-    let mut words = Vec::new(alloc);
-    for word in line.split_whitespace() {
-        words.push(String::from_str(alloc, word)?)?;
+fn owned(alloc: Global, words: &[&str]) -> Result<Vec<String>, AllocError> {
+    let mut owned = Vec::new(alloc);
+    for word in words {
+        owned.push(String::from_str(alloc, word)?)?;
     }
-    Ok(words)
+    Ok(owned)
 }
 
 fn numbers(alloc: Global, number: Option<u64>) -> Result<Vec<u64>, AllocError> {
@@ -35,12 +35,12 @@ fn numbers(alloc: Global, number: Option<u64>) -> Result<Vec<u64>, AllocError> {
 /// The status and what was written, where the source's and the sink's calls of these numbers fail.
 fn run_failing(
     alloc: Global,
-    words: &str,
+    words: &[&str],
     input: &str,
     read: Option<u64>,
     put: Option<u64>,
 ) -> Result<(u8, Vec<u8>), AllocError> {
-    let words = words_of(alloc, words)?;
+    let words = owned(alloc, words)?;
     let mut source = MemSource::new(input.as_bytes().to_vec(alloc)?, 16, numbers(alloc, read)?);
     let mut sink = MemSink::new(alloc, 4096, 8, numbers(alloc, put)?)?;
     let status = run(alloc, words.as_slice(), &mut source, &mut sink);
@@ -49,7 +49,7 @@ fn run_failing(
 
 fn run_serial(alloc: Global, header: &str, lines: &str) -> Result<(u8, Vec<u8>), AllocError> {
     let input = format!(in alloc; "{header}{lines}")?;
-    run_failing(alloc, "serial", input.as_str(), None, None)
+    run_failing(alloc, &["serial"], input.as_str(), None, None)
 }
 
 /// What is shown, the lines of the body, and the transcript.
@@ -96,12 +96,24 @@ fn traces_are_played(rt: HostRuntime) -> Result<(), Fail> {
 }
 
 /// What is shown, the header, the lines of the body, and the transcript.
-const WITH_HEADERS: [(&str, &str, &str, &str); 2] = [
+const WITH_HEADERS: [(&str, &str, &str, &str); 4] = [
     (
         "the limit is one row",
         "rangelock 1\ntrees 1\nlimit 1\nbuffer 0\n",
         "1 try 0 \"a\" \"a\"\n2 try 0 \"c\" \"c\"\n",
         "0 1 ask 0 \"a\" \"a\" granted\n1 1 free 0 \"a\" \"a\" 1\ntxn 1 done\ntxn 2 outoflocks 1 1\nend 2 0\n",
+    ),
+    (
+        "trees are given back in ascending order",
+        "rangelock 1\ntrees 2\nlimit 64\nbuffer 0\n",
+        "1 try 1 \"a\" \"a\"\n1 try 0 \"b\" \"b\"\n2 try 0 \"a\" \"a\"\n1 end\n",
+        "0 1 ask 1 \"a\" \"a\" granted\n1 1 ask 0 \"b\" \"b\" granted\n2 2 ask 0 \"a\" \"a\" granted\n3 1 free 0 \"b\" \"b\" 1\n4 1 free 1 \"a\" \"a\" 1\n5 2 free 0 \"a\" \"a\" 1\ntxn 1 done\ntxn 2 done\nend 6 0\n",
+    ),
+    (
+        "the limit counts the rows of all trees",
+        "rangelock 1\ntrees 2\nlimit 2\nbuffer 0\n",
+        "1 try 1 \"a\" \"a\"\n2 try 0 \"a\" \"a\"\n3 try 1 \"c\" \"c\"\n",
+        "0 1 ask 1 \"a\" \"a\" granted\n1 2 ask 0 \"a\" \"a\" granted\n2 1 free 1 \"a\" \"a\" 1\n3 2 free 0 \"a\" \"a\" 1\ntxn 1 done\ntxn 2 done\ntxn 3 outoflocks 2 2\nend 4 0\n",
     ),
     (
         "prefix endpoints in the second version",
@@ -176,10 +188,24 @@ fn a_key_has_at_most_63_bytes(rt: HostRuntime) -> Result<(), Fail> {
 #[test]
 fn other_words_are_no_command(rt: HostRuntime) -> Result<(), Fail> {
     let alloc = rt.alloc();
-    for words in ["", "serial x", "crew 4", "Serial", "help", "--help"] {
+    let others: [&[&str]; 12] = [
+        &[],
+        &[""],
+        &["serial", ""],
+        &["serial "],
+        &["serial", "x"],
+        &["Serial"],
+        &["crew", "4"],
+        &["crew", "0"],
+        &["crew", "04"],
+        &["crew", "--", "4"],
+        &["help"],
+        &["--help"],
+    ];
+    for (place, words) in others.iter().enumerate() {
         let (status, written) = run_failing(alloc, words, HEADER, None, None)?;
-        assert_eq!(rt; status, 2, "for {words}");
-        assert_eq!(rt; written.len(), 0, "for {words}");
+        assert_eq!(rt; status, 2, "at {place}");
+        assert_eq!(rt; written.len(), 0, "at {place}");
     }
     Ok(())
 }
@@ -191,11 +217,11 @@ fn each_call_of_the_source_may_fail(rt: HostRuntime) -> Result<(), Fail> {
     let input = format!(in alloc; "{HEADER}{HELD_LINES}")?;
     assert_eq!(rt; input.len(), 70);
     for call in 0..6u64 {
-        let (status, written) = run_failing(alloc, "serial", input.as_str(), Some(call), None)?;
+        let (status, written) = run_failing(alloc, &["serial"], input.as_str(), Some(call), None)?;
         assert_eq!(rt; status, 4, "at {call}");
         assert_eq!(rt; written.len(), 0, "at {call}");
     }
-    let (status, written) = run_failing(alloc, "serial", input.as_str(), Some(6), None)?;
+    let (status, written) = run_failing(alloc, &["serial"], input.as_str(), Some(6), None)?;
     assert_eq!(rt; status, 0);
     assert_eq!(rt; written.as_slice(), HELD_TEXT.as_bytes());
     Ok(())
@@ -210,11 +236,11 @@ fn each_put_of_the_sink_may_fail(rt: HostRuntime) -> Result<(), Fail> {
     assert_eq!(rt; text.len(), 105);
     for call in 0..14usize {
         let put = Some(call as u64);
-        let (status, written) = run_failing(alloc, "serial", input.as_str(), None, put)?;
+        let (status, written) = run_failing(alloc, &["serial"], input.as_str(), None, put)?;
         assert_eq!(rt; status, 5, "at {call}");
         assert_eq!(rt; written.as_slice(), &text[..8 * call], "at {call}");
     }
-    let (status, written) = run_failing(alloc, "serial", input.as_str(), None, Some(14))?;
+    let (status, written) = run_failing(alloc, &["serial"], input.as_str(), None, Some(14))?;
     assert_eq!(rt; status, 0);
     assert_eq!(rt; written.as_slice(), text);
     Ok(())

@@ -73,11 +73,11 @@ plays_of setting lines left events (t ∷ ts) follows ended quiet =
               ∙ sym (ap (λ (o : Option Outcome). cons_option (option_map (λ (x : Outcome). record { txn = t.txn; outcome = x }) o) (filter_map ended_in ts)) is);
         }
 
-searched_plain : (setting : Setting) (lines : List Line) (plays : List Play) (txn : ℕ) (moves : List Move) → AllByRecursion IsPlainMove moves → AllByRecursion (IsSearchedRightly setting lines plays txn) moves
+searched_plain : (setting : Setting) (lines : List Line) (plays : List Play) (txn : ℕ) (moves : List Move) → AllByRecursion IsPlainMove moves → AllByRecursion (IsSearchedRightly false setting lines plays txn) moves
 searched_plain setting lines plays txn [] plain = tt
 searched_plain setting lines plays txn (move ∷ moves) plain = (at_move move plain.0, searched_plain setting lines plays txn moves plain.1)
   where
-    at_move : (move : Move) → IsPlainMove move → IsSearchedRightly setting lines plays txn move
+    at_move : (move : Move) → IsPlainMove move → IsSearchedRightly false setting lines plays txn move
     at_move (leaves joins) p = tt
     at_move (asks joins ask) p = tt
     at_move (waits joins ask wishes search) p = absurd p
@@ -88,7 +88,7 @@ searched_plain setting lines plays txn (move ∷ moves) plain = (at_move move pl
     at_move (frees free) p = tt
 
 all_searched : (setting : Setting) (lines : List Line) (all plays : List Play) → AllByRecursion (λ play. AllByRecursion IsPlainMove play.moves) plays →
-    AllByRecursion (λ play. AllByRecursion (IsSearchedRightly setting lines all play.txn) play.moves) plays
+    AllByRecursion (λ play. AllByRecursion (IsSearchedRightly false setting lines all play.txn) play.moves) plays
 all_searched setting lines all [] plain = tt
 all_searched setting lines all (play ∷ plays) plain = (searched_plain setting lines all play.txn play.moves plain.0, all_searched setting lines all plays plain.1)
 

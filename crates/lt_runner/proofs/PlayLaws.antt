@@ -11,7 +11,8 @@ use Rattle.lt_seq.specs.History.{after, IsFront}
 use Rattle.lt_seq.specs.Yard.{place_after}
 use Rattle.lt_trace.specs.declared.line.Line.{Line}
 use Rattle.lt_trace.specs.declared.line.LineDeed.{LineDeed}
-use Rattle.lt_runner.specs.Plays.{Stage, stage_after, stage_after_all, MayDo, IsMove, ArePlayed, IsInside}
+use Rattle.lt_runner.specs.Plays.{Stage, stage_after, stage_after_all, MayDo, IsMove, ArePlayed}
+use Rattle.lt_runner.specs.Played.{IsInside}
 use Rattle.lt_runner.specs.Turn.{Move, leaves, asks, waits, stops, escalates, grows, ends, frees}
 use Rattle.lt_runner.specs.Attempt.{used_at, HasRoom, IsAttempt, IsStop}
 

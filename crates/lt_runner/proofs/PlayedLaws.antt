@@ -7,8 +7,8 @@ use Rattle.lt_seq.specs.declared.event.Receipt.{Receipt}
 use Rattle.lt_seq.specs.Table.{Setting}
 use Rattle.lt_runner.specs.TurnView.{Turn}
 use Rattle.lt_runner.specs.Turn.{Move, leaves, asks, waits, stops, escalates, grows, ends, frees, receipts_in, turn_after}
-use Rattle.lt_runner.specs.Plays.{Past, Stage, stage_after, stage_after_all, IsMove, IsInside, AreInside}
-use Rattle.lt_runner.specs.Played.{IsPastOf, HasPlayed, Moves}
+use Rattle.lt_runner.specs.Plays.{Past, Stage, stage_after, stage_after_all, IsMove}
+use Rattle.lt_runner.specs.Played.{AreInside, IsInside, IsPastOf, HasPlayed, Moves}
 use Rattle.lt_runner.proofs.PlayLaws.{played_more, played_stays, longer}
 
 pub all_more : (P : Move → Type 0) (moves : List Move) (move : Move) → AllByRecursion P moves → P move → AllByRecursion P (moves ++ move ∷ [])

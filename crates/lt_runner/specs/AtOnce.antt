@@ -1,11 +1,13 @@
--- What a line comes to where no turn waits: all of it happens at once.
+-- What a line comes to where no turn waits: all of it happens at once. For proofs and private functions; no public clause
+-- speaks of it.
 use Rattle.std.specs.Prelude.{◌≡◌, ℕ, ◌+◌, ◌^◌, ◌<◌, ◌≤◌, List, [], ◌∷◌, ◌++◌, length, map, sum_by, replicate, Some, None, false, is_some, nat_lt, if◌then◌else◌, IsTrue}
 use Rattle.std.specs.List.{All}
 use Rattle.std.specs.List.Sorted.{IsStrictlySortedBy}
 use Rattle.std.specs.Ordering.{nat_cmp}
 use Rattle.lt_ranges.specs.Numbers.{is_in}
 use Rattle.lt_ranges.specs.Interval.{Interval}
-use Rattle.lt_seq.specs.declared.event.Deed.TheVariants.{Ask, Free}
+use Rattle.lt_seq.specs.declared.event.Deed.{Deed}
+use Rattle.lt_seq.specs.declared.event.Deed.TheVariants.{Ask, Free, Who, Join}
 use Rattle.lt_seq.specs.declared.event.Reply.TheVariants.{Granted}
 use Rattle.lt_seq.specs.declared.event.Event.{Event}
 use Rattle.lt_seq.specs.Table.{Setting, used}
@@ -47,6 +49,13 @@ IsPlain setting End = Unit {0}
 IsPlain setting Abort = ⊥
 IsPlain setting (Escalate tree) = ⊥
 IsPlain setting Big = ⊥
+
+-- the deed is an ask
+abbrev pub IsAsk : Deed → Type 0
+IsAsk (Ask tree range reply) = Unit {0}
+IsAsk (Free tree range first count) = ⊥
+IsAsk (Who tree range named owners) = ⊥
+IsAsk (Join tree before after) = ⊥
 
 -- a turn with the history
 pub record Step : Type 0 where

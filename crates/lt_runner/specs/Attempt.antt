@@ -1,13 +1,10 @@
--- When an attempt finds room, and when it joins the trees first.
-use Rattle.std.specs.Prelude.{◌≡◌, ℕ, ◌+◌, ◌-◌, ◌<◌, ◌≤◌, List, [], ◌∷◌, map, fold, take}
-use Rattle.lt_seq.specs.declared.event.Deed.TheVariants.{Join}
+-- When an attempt finds room, and when it is out of locks.
+use Rattle.std.specs.Prelude.{◌≡◌, ℕ, ◌+◌, ◌-◌, ◌<◌, ◌≤◌, List, [], ◌∷◌, fold, take}
 use Rattle.lt_seq.specs.declared.event.Event.{Event}
 use Rattle.lt_seq.specs.declared.event.Receipt.{Receipt}
 use Rattle.lt_seq.specs.Table.{Setting, used}
 use Rattle.lt_seq.specs.History.{after}
-use Rattle.lt_seq.specs.Passes.{numbers_from}
 use Rattle.lt_seq.specs.Yard.{place_after}
-use Rattle.lt_seq.specs.Questions.{question}
 use Rattle.lt_runner.specs.TurnView.{Turn}
 
 -- the place behind these receipts
@@ -24,15 +21,6 @@ bar_of setting turn = setting.plan.limit
 -- at some place from one to another there were fewer rows than the bar, or not
 abbrev pub HasRoom : Setting → List Event → ℕ → ℕ → ℕ → Type 0
 HasRoom setting history bar from to = (place : ℕ) × (from ≤ place) × (place ≤ to) × (used_at setting history place < bar)
-
-abbrev pub IsFull : Setting → List Event → ℕ → ℕ → ℕ → Type 0
-IsFull setting history bar from to = (place : ℕ) × (from ≤ place) × (place ≤ to) × (bar ≤ used_at setting history place)
-
-abbrev pub all_trees : Setting → List ℕ
-all_trees setting = numbers_from 0 setting.plan.trees
-
-abbrev pub AreJoins : List ℕ → List Receipt → Type 0
-AreJoins trees receipts = map (λ r. question r.event.deed) receipts ≡ map (λ tree. Join tree 0 0) trees
 
 -- there is room before an attempt's ask; no table joins its trees yet
 abbrev pub IsAttempt : Setting → List Event → ℕ → ℕ → List Receipt → ℕ → Type 0

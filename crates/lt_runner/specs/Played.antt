@@ -1,15 +1,30 @@
--- What a transaction has done so far, for the loops that play it.
-use Rattle.std.specs.Prelude.{Option, Some, None, ◌≡◌, ◌≤◌, List, [], ◌∷◌, Bool, false}
+-- What a transaction has done so far, for the loops that play it. For proofs and private functions; no public clause speaks
+-- of it.
+use Rattle.std.specs.Prelude.{◌≡◌, ◌≤◌, List, Bool, false}
 use Rattle.std.specs.List.{AllByRecursion, flat_map}
 use Rattle.lt_seq.specs.declared.event.Event.{Event}
 use Rattle.lt_seq.specs.declared.event.Receipt.{Receipt}
 use Rattle.lt_seq.specs.Table.{Setting}
-use Rattle.lt_trace.specs.declared.line.Line.{Line}
-use Rattle.lt_trace.specs.declared.line.LineDeed.{LineDeed}
 use Rattle.lt_seq.specs.Yard.{place_after}
 use Rattle.lt_runner.specs.TurnView.{Turn}
-use Rattle.lt_runner.specs.Turn.{Move, receipts_in, turn_after}
-use Rattle.lt_runner.specs.Plays.{Past, Stage, stage_after, stage_after_all, IsMove, IsInside, ArePlayed}
+use Rattle.lt_runner.specs.Turn.{Move, leaves, asks, waits, stops, escalates, grows, ends, frees, receipts_in, turn_after}
+use Rattle.lt_runner.specs.Plays.{Past, Stage, stage_after, stage_after_all, IsMove, ArePlayed}
+
+-- each of these came no later than the history's next event
+abbrev pub AreInside : Setting → List Event → List Receipt → Type 0
+AreInside setting history receipts = AllByRecursion (λ r. r.place ≤ place_after setting history) receipts
+
+-- So lie the places at which the rules of the move look at the table: a longer history shows the same there. The look of one
+-- that is out of locks has its bound in its own rule, and the rules of the others look at no place.
+abbrev pub IsInside : Setting → List Event → Move → Type 0
+IsInside setting history (leaves joins) = AreInside setting history joins
+IsInside setting history (asks joins ask) = (ask.place ≤ place_after setting history) × AreInside setting history joins
+IsInside setting history (waits joins ask wishes search) = (ask.place ≤ place_after setting history) × AreInside setting history joins
+IsInside setting history (stops joins place used_rows) = AreInside setting history joins
+IsInside setting history (escalates join) = Unit {0}
+IsInside setting history grows = Unit {0}
+IsInside setting history ends = Unit {0}
+IsInside setting history (frees free) = Unit {0}
 
 -- the past lies in the history, and fits the turn
 pub record IsPastOf (setting : Setting) (history : List Event) (turn : Turn) (past : Past) : Type 0 where
@@ -31,8 +46,3 @@ pub record Moves (crew : Bool) (setting : Setting) (old_history new_history : Li
   pub inside : IsInside setting new_history move
   pub past : (past : Past) → IsPastOf setting old_history old past → IsPastOf setting new_history new (stage_after (record { turn = old; past = past }) move).past
   pub made_by : made ≡ receipts_in move
-
--- what the next line is
-abbrev pub first_deed : List Line → Option LineDeed
-first_deed [] = None
-first_deed (line ∷ lines) = Some line.deed

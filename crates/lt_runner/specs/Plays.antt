@@ -2,15 +2,13 @@
 use Rattle.std.specs.Prelude.{◌≡◌, ℕ, ◌+◌, ◌≤◌, List, [], ◌∷◌, ◌++◌, map, filter, fold, Option, Some, None, Bool, true, false, ◌&&◌, ◌==◌, not, if◌then◌else◌, replicate, ◌||◌, IsTrue}
 use Rattle.lt_ranges.specs.Numbers.{ascending}
 use Rattle.lt_trace.specs.Grammar.{is_last}
-use Rattle.std.specs.List.{flat_map, list_any, find, AllByRecursion}
+use Rattle.std.specs.List.{flat_map, list_any, find}
 use Rattle.lt_seq.specs.declared.event.Deed.{Deed}
 use Rattle.lt_seq.specs.declared.event.Deed.TheVariants.{Ask, Free, Join}
 use Rattle.lt_seq.specs.declared.event.Reply.{Reply}
 use Rattle.lt_seq.specs.declared.event.Reply.TheVariants.{Granted, Buffered, HeldBy}
 use Rattle.lt_seq.specs.declared.event.Event.{Event}
-use Rattle.lt_seq.specs.declared.event.Receipt.{Receipt}
 use Rattle.lt_seq.specs.Table.{Setting}
-use Rattle.lt_seq.specs.Yard.{place_after}
 use Rattle.lt_seq.specs.Questions.{question, named_by, receipts_of}
 use Rattle.lt_trace.specs.declared.line.Line.{Line}
 use Rattle.lt_trace.specs.declared.line.LineDeed.{LineDeed}
@@ -164,20 +162,6 @@ MayFree since (r ∷ rs) ends = ⊥
 abbrev pub IsMove : Bool → Setting → List Event → Stage → List Line → Move → Type 0
 IsMove crew setting history stage [] move = MayFree stage.past.since stage.turn.releases move
 IsMove crew setting history stage (line ∷ lines) move = MayDo crew setting history stage line.deed move
-
-abbrev pub AreInside : Setting → List Event → List Receipt → Type 0
-AreInside setting history receipts = AllByRecursion (λ r. r.place ≤ place_after setting history) receipts
-
--- the receipts of a move are the history's
-abbrev pub IsInside : Setting → List Event → Move → Type 0
-IsInside setting history (leaves joins) = AreInside setting history joins
-IsInside setting history (asks joins ask) = (ask.place ≤ place_after setting history) × AreInside setting history joins
-IsInside setting history (waits joins ask wishes search) = (ask.place ≤ place_after setting history) × AreInside setting history joins
-IsInside setting history (stops joins place used_rows) = AreInside setting history joins
-IsInside setting history (escalates join) = Unit {0}
-IsInside setting history grows = Unit {0}
-IsInside setting history ends = Unit {0}
-IsInside setting history (frees free) = Unit {0}
 
 -- Plays.
 

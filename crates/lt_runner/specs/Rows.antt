@@ -4,7 +4,7 @@ use Rattle.lt_ranges.specs.declared.key.Key.TheVariants.{Bytes}
 use Rattle.lt_ranges.specs.Interval.{Interval}
 use Rattle.lt_trace.specs.declared.line.Line.{Line}
 use Rattle.lt_trace.specs.declared.line.LineDeed.{LineDeed}
-use Rattle.lt_trace.specs.declared.line.LineDeed.TheVariants.{Try, Lock, End}
+use Rattle.lt_trace.specs.declared.line.LineDeed.TheVariants.{Try, Lock, End, Abort, Escalate}
 use Rattle.lt_trace.specs.Trace.{TraceView}
 use Rattle.lt_runner.specs.Serial.{serial, ran_text}
 
@@ -29,8 +29,32 @@ deadlock = with_limit 64 (line 1 (Lock 0 (from_to 97 97)) ∷ line 2 (Lock 0 (fr
 abbrev pub put_off : TraceView
 put_off = with_limit 64 (line 1 (Lock 0 (from_to 97 97)) ∷ line 2 (Lock 0 (from_to 97 99)) ∷ line 2 (Try 0 (from_to 120 120)) ∷ line 1 End ∷ [])
 
+abbrev pub one_row : TraceView
+one_row = with_limit 1 (line 1 (Try 0 (from_to 97 97)) ∷ line 2 (Try 0 (from_to 99 99)) ∷ [])
+
+abbrev pub aborted : TraceView
+aborted = with_limit 64 (line 1 (Lock 0 (from_to 97 97)) ∷ line 1 Abort ∷ [])
+
+abbrev pub cycle_of_three : TraceView
+cycle_of_three = with_limit 64 (line 1 (Lock 0 (from_to 97 97)) ∷ line 2 (Lock 0 (from_to 98 98)) ∷ line 3 (Lock 0 (from_to 99 99)) ∷ line 1 (Lock 0 (from_to 98 98)) ∷ line 2 (Lock 0 (from_to 99 99)) ∷ line 3 (Lock 0 (from_to 97 97)) ∷ [])
+
+abbrev pub buffered : TraceView
+buffered = record (with_limit 64 (line 1 (Lock 0 (from_to 97 97)) ∷ line 1 (Lock 0 (from_to 99 99)) ∷ line 1 End ∷ line 2 (Lock 0 (from_to 122 122)) ∷ [])) { buffer = 4 }
+
+abbrev pub escalated : TraceView
+escalated = with_limit 64 (line 1 (Try 0 (from_to 97 97)) ∷ line 1 (Try 0 (from_to 99 99)) ∷ line 1 (Try 0 (from_to 101 101)) ∷ line 2 (Try 0 (from_to 103 103)) ∷ line 1 (Escalate 0) ∷ line 3 (Try 0 (from_to 100 100)) ∷ [])
+
+abbrev pub two_trees : TraceView
+two_trees = record (with_limit 2 (line 1 (Try 1 (from_to 97 97)) ∷ line 1 (Try 0 (from_to 98 98)) ∷ line 2 (Try 0 (from_to 97 97)) ∷ line 1 End ∷ [])) { trees = 2 }
+
 pub record Rows : Type 0 where
-  pub one : ran_text (serial smallest 0) ≡ codes "0 1 ask 0 \"a\" \"c\" granted\n1 1 free 0 \"a\" \"c\" 1\ntxn 1 done\nend 2 0\n"
-  pub three : ran_text (serial shared_end 0) ≡ codes "0 1 ask 0 \"a\" \"c\" granted\n1 2 ask 0 \"c\" \"e\" held by 1\n2 1 free 0 \"a\" \"c\" 1\ntxn 1 done\ntxn 2 done\nend 3 0\n"
-  pub eight : ran_text (serial deadlock 0) ≡ codes "0 1 ask 0 \"a\" \"a\" granted\n1 2 ask 0 \"b\" \"b\" granted\n2 1 ask 0 \"b\" \"b\" held by 2\n3 2 ask 0 \"a\" \"a\" held by 1\n4 2 who 0 \"b\" \"b\" 1 held by 2\n5 2 free 0 \"b\" \"b\" 1\n6 1 ask 0 \"b\" \"b\" granted\n7 1 free 0 \"a\" \"a\" 1\n8 1 free 0 \"b\" \"b\" 1\ntxn 1 done\ntxn 2 deadlock 2 1 2\nend 9 0\n"
-  pub nine : ran_text (serial put_off 0) ≡ codes "0 1 ask 0 \"a\" \"a\" granted\n1 2 ask 0 \"a\" \"c\" held by 1\n2 1 free 0 \"a\" \"a\" 1\n3 2 ask 0 \"a\" \"c\" granted\n4 2 ask 0 \"x\" \"x\" granted\n5 2 free 0 \"a\" \"c\" 1\n6 2 free 0 \"x\" \"x\" 1\ntxn 1 done\ntxn 2 done\nend 7 0\n"
+  pub given_back : ran_text (serial smallest 0) ≡ codes "0 1 ask 0 \"a\" \"c\" granted\n1 1 free 0 \"a\" \"c\" 1\ntxn 1 done\nend 2 0\n"
+  pub refused : ran_text (serial shared_end 0) ≡ codes "0 1 ask 0 \"a\" \"c\" granted\n1 2 ask 0 \"c\" \"e\" held by 1\n2 1 free 0 \"a\" \"c\" 1\ntxn 1 done\ntxn 2 done\nend 3 0\n"
+  pub searched : ran_text (serial deadlock 0) ≡ codes "0 1 ask 0 \"a\" \"a\" granted\n1 2 ask 0 \"b\" \"b\" granted\n2 1 ask 0 \"b\" \"b\" held by 2\n3 2 ask 0 \"a\" \"a\" held by 1\n4 2 who 0 \"b\" \"b\" 1 held by 2\n5 2 free 0 \"b\" \"b\" 1\n6 1 ask 0 \"b\" \"b\" granted\n7 1 free 0 \"a\" \"a\" 1\n8 1 free 0 \"b\" \"b\" 1\ntxn 1 done\ntxn 2 deadlock 2 1 2\nend 9 0\n"
+  pub retried : ran_text (serial put_off 0) ≡ codes "0 1 ask 0 \"a\" \"a\" granted\n1 2 ask 0 \"a\" \"c\" held by 1\n2 1 free 0 \"a\" \"a\" 1\n3 2 ask 0 \"a\" \"c\" granted\n4 2 ask 0 \"x\" \"x\" granted\n5 2 free 0 \"a\" \"c\" 1\n6 2 free 0 \"x\" \"x\" 1\ntxn 1 done\ntxn 2 done\nend 7 0\n"
+  pub out_of_locks : ran_text (serial one_row 0) ≡ codes "0 1 ask 0 \"a\" \"a\" granted\n1 1 free 0 \"a\" \"a\" 1\ntxn 1 done\ntxn 2 outoflocks 1 1\nend 2 0\n"
+  pub ended : ran_text (serial aborted 0) ≡ codes "0 1 ask 0 \"a\" \"a\" granted\n1 1 free 0 \"a\" \"a\" 1\ntxn 1 aborted\nend 2 0\n"
+  pub walked : ran_text (serial cycle_of_three 0) ≡ codes "0 1 ask 0 \"a\" \"a\" granted\n1 2 ask 0 \"b\" \"b\" granted\n2 3 ask 0 \"c\" \"c\" granted\n3 1 ask 0 \"b\" \"b\" held by 2\n4 2 ask 0 \"c\" \"c\" held by 3\n5 3 ask 0 \"a\" \"a\" held by 1\n6 3 who 0 \"b\" \"b\" 1 held by 2\n7 3 who 0 \"c\" \"c\" 2 held by 3\n8 3 free 0 \"c\" \"c\" 1\n9 1 ask 0 \"b\" \"b\" held by 2\n10 1 who 0 \"c\" \"c\" 2 held by none\n11 2 ask 0 \"c\" \"c\" granted\n12 2 free 0 \"b\" \"b\" 1\n13 2 free 0 \"c\" \"c\" 1\n14 1 ask 0 \"b\" \"b\" granted\n15 1 free 0 \"a\" \"a\" 1\n16 1 free 0 \"b\" \"b\" 1\ntxn 1 done\ntxn 2 done\ntxn 3 deadlock 3 1 2 3\nend 17 0\n"
+  pub given_back_whole : ran_text (serial buffered 0) ≡ codes "0 1 ask 0 \"a\" \"a\" buffered\n1 1 ask 0 \"c\" \"c\" buffered\n2 1 free 0 - + 2\n3 2 ask 0 \"z\" \"z\" buffered\n4 2 free 0 - + 1\ntxn 1 done\ntxn 2 done\nend 5 0\n"
+  pub joined : ran_text (serial escalated 0) ≡ codes "0 1 ask 0 \"a\" \"a\" granted\n1 1 ask 0 \"c\" \"c\" granted\n2 1 ask 0 \"e\" \"e\" granted\n3 2 ask 0 \"g\" \"g\" granted\n4 1 join 0 4 2\n5 3 ask 0 \"d\" \"d\" held by 1\n6 1 free 0 \"a\" \"a\" 1\n7 1 free 0 \"c\" \"c\" 0\n8 1 free 0 \"e\" \"e\" 0\n9 2 free 0 \"g\" \"g\" 1\ntxn 1 done\ntxn 2 done\ntxn 3 done\nend 10 0\n"
+  pub by_tree : ran_text (serial two_trees 0) ≡ codes "0 1 ask 1 \"a\" \"a\" granted\n1 1 ask 0 \"b\" \"b\" granted\n2 1 free 0 \"b\" \"b\" 1\n3 1 free 1 \"a\" \"a\" 1\ntxn 1 done\ntxn 2 outoflocks 2 2\nend 4 0\n"

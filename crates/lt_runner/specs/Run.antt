@@ -1,5 +1,5 @@
 -- Whole runs: one legal history in which each transaction is played to its end.
-use Rattle.std.specs.Prelude.{◌≡◌, ◌≢◌, ℕ, ◌<◌, List, ◌∷◌, map, length, take_while, Some, IfSome, Bool, true, nat_lt, nat_le, IsTrue}
+use Rattle.std.specs.Prelude.{◌≡◌, ◌≢◌, ℕ, ◌<◌, List, ◌∷◌, map, length, take_while, Some, IfSome, Bool, true, nat_lt, nat_le, IsTrue, if◌then◌else◌}
 use Rattle.std.specs.List.{AllByRecursion, list_all}
 use Rattle.lt_ranges.specs.Numbers.{is_in}
 use Rattle.lt_seq.specs.declared.event.Event.{Event}
@@ -44,22 +44,23 @@ abbrev pub stage_at : Setting → List Line → Play → ℕ → Stage
 stage_at setting lines play place =
     stage_after_all (opening_stage setting play.txn (lines_for play.txn lines)) (take_while (is_before place) play.moves)
 
--- a transaction that is registered waits for this wish; one that was held twice at its line is registered
-pub record IsListedRightly (stage : Stage) (wishes : List Wish) : Type 0 where
+-- A transaction that is registered waits for this wish. One that was held at its line is registered; in a crew's run one that
+-- was held there twice, since the first search may be left to the caller.
+pub record IsListedRightly (crew : Bool) (stage : Stage) (wishes : List Wish) : Type 0 where
   pub waits : IfSome (wish_in stage.turn.txn wishes) (λ wish. IsTrue stage.turn.waits × (next_wish stage.turn.txn stage.turn.lines ≡ Some wish))
-  pub listed : 1 < stage.past.held → wish_in stage.turn.txn wishes ≡ next_wish stage.turn.txn stage.turn.lines
+  pub listed : (if crew then 1 else 0) < stage.past.held → wish_in stage.turn.txn wishes ≡ next_wish stage.turn.txn stage.turn.lines
 
 -- among the others, at this search
-abbrev pub IsSearchedRightly : Setting → List Line → List Play → ℕ → Move → Type 0
-IsSearchedRightly setting lines plays txn (waits joins ask wishes search) =
-    AllByRecursion (λ other. other.txn ≢ txn → IsListedRightly (stage_at setting lines other ask.place) wishes) plays
-IsSearchedRightly setting lines plays txn (leaves joins) = Unit {0}
-IsSearchedRightly setting lines plays txn (asks joins ask) = Unit {0}
-IsSearchedRightly setting lines plays txn (stops joins place used_rows) = Unit {0}
-IsSearchedRightly setting lines plays txn (escalates join) = Unit {0}
-IsSearchedRightly setting lines plays txn grows = Unit {0}
-IsSearchedRightly setting lines plays txn ends = Unit {0}
-IsSearchedRightly setting lines plays txn (frees free) = Unit {0}
+abbrev pub IsSearchedRightly : Bool → Setting → List Line → List Play → ℕ → Move → Type 0
+IsSearchedRightly crew setting lines plays txn (waits joins ask wishes search) =
+    AllByRecursion (λ other. other.txn ≢ txn → IsListedRightly crew (stage_at setting lines other ask.place) wishes) plays
+IsSearchedRightly crew setting lines plays txn (leaves joins) = Unit {0}
+IsSearchedRightly crew setting lines plays txn (asks joins ask) = Unit {0}
+IsSearchedRightly crew setting lines plays txn (stops joins place used_rows) = Unit {0}
+IsSearchedRightly crew setting lines plays txn (escalates join) = Unit {0}
+IsSearchedRightly crew setting lines plays txn grows = Unit {0}
+IsSearchedRightly crew setting lines plays txn ends = Unit {0}
+IsSearchedRightly crew setting lines plays txn (frees free) = Unit {0}
 
 -- One history of all transactions.
 pub record IsRun (crew : Bool) (setting : Setting) (lines : List Line) (history : List Event) (plays : List Play) : Type 0 where
@@ -69,7 +70,7 @@ pub record IsRun (crew : Bool) (setting : Setting) (lines : List Line) (history 
   pub txns : map (λ play. play.txn) plays ≡ txns_of lines
   pub played : AllByRecursion (λ play. Plays crew setting lines history play.txn play.outcome play.moves) plays
   pub others : AllByRecursion (λ e. IsTrue (is_in e.txn (txns_of lines))) history
-  pub searches : AllByRecursion (λ play. AllByRecursion (IsSearchedRightly setting lines plays play.txn) play.moves) plays
+  pub searches : AllByRecursion (λ play. AllByRecursion (IsSearchedRightly crew setting lines plays play.txn) play.moves) plays
 
 -- the text of a run
 abbrev pub run_text : Setting → List Event → List Play → List ℕ

@@ -51,6 +51,8 @@ pub(crate) fn free<Y: Yard>(
     match yard.free(pass, txn, release.tree, &release.range, release.first) {
         Ok(_) => Ok(()),
         Err(Fault::OutOfMemory) => Err(AllocError),
-        Err(_) => unreachable!(),
+        Err(Fault::Busy { .. } | Fault::HistoryFull { .. } | Fault::OutOfLocks { .. }) => {
+            unreachable!()
+        }
     }
 }

@@ -1,8 +1,8 @@
 //! One transaction's lines, by a pass that has all the rights.
 ghost use Rattle.std.specs.Prelude.{◌≡◌, ◌≤◌, ◌<◌, OnOk, length};
 ghost use Rattle.lt_seq.specs.Yard.{origin_of};
-ghost use Rattle.lt_runner.specs.Turn.{releases_by, releases_in, releases_from};
-ghost use Rattle.lt_runner.specs.AtOnce.{IsAlone, IsQuiet, IsPlain, HasPlaces, Step, step_at, freed, ended_by, asked, played_by, owed_in, owed};
+ghost use Rattle.lt_runner.specs.Turn.{releases_by, releases_in, releases_from, reply_in};
+ghost use Rattle.lt_runner.specs.AtOnce.{IsAlone, IsAsk, IsQuiet, IsPlain, HasPlaces, Step, step_at, freed, ended_by, asked, played_by, owed_in, owed};
 ghost use Rattle.std.specs.Prelude.{sum_by, true, is_some, false};
 
 use crate::calls;
@@ -10,8 +10,8 @@ use crate::release::Release;
 use crate::turn::{Recorded, Turn};
 use lt_history::Outcome;
 use lt_ranges::KeyRange;
-use lt_seq::Fault;
 use lt_seq::yard::{Pass, Yard};
+use lt_seq::{Deed, Fault, Reply};
 use lt_trace::LineDeed;
 use std::alloc::AllocError;
 
@@ -90,10 +90,8 @@ fn free_all<Y: Yard>(
     ensures alone { IsAlone (Y.setting yard.now) (Y.Pass.view pass.new) }
     ensures freed { OnOk result ((Y.Pass.view pass.new).front ≡ freed (Y.setting yard.now) txn (releases_from 0 recorded.now) (Y.Pass.view pass.old).front) }
 {
-    let mut tree = 0;
-    for in_tree in recorded {
-        free_tree(yard, pass, txn, tree, in_tree)?;
-        tree += 1;
+    for (tree, in_tree) in recorded.iter().enumerate() {
+        free_tree(yard, pass, txn, tree as u32, in_tree)?;
     }
     Ok(())
 }
@@ -119,6 +117,17 @@ fn end<Y: Yard>(
     Ok(())
 }
 
+/// What an ask was replied.
+fn reply_in(deed: &Deed) -> &Reply
+    requires { IsAsk deed.now }
+    ensures { result.now ≡ reply_in deed.now }
+{
+    match deed {
+        Deed::Ask { reply, .. } => reply,
+        Deed::Free { .. } | Deed::Who { .. } | Deed::Join { .. } => unreachable!(),
+    }
+}
+
 /// Asks for a range. A transaction that is out of locks ends.
 fn ask<Y: Yard>(
     yard: &Y,
@@ -138,12 +147,12 @@ fn ask<Y: Yard>(
     ensures asked { OnOk result (step_at (Y.Pass.view pass.new).front turn.new ≡ asked (Y.setting yard.now) tree range.now (step_at (Y.Pass.view pass.old).front turn.old)) }
 {
     match calls::ask(yard, pass, turn.txn, tree, range) {
-        Ok(receipt) => turn.answer(tree, range, &receipt.event.deed),
+        Ok(receipt) => turn.answer(tree, range, reply_in(&receipt.event.deed)),
         Err(Fault::OutOfLocks { place, used }) => {
             end(yard, pass, turn, Outcome::OutOfLocks { place, used })
         }
         Err(Fault::OutOfMemory) => Err(AllocError),
-        Err(_) => unreachable!(),
+        Err(Fault::Busy { .. } | Fault::HistoryFull { .. }) => unreachable!(),
     }
 }
 
@@ -169,6 +178,8 @@ pub(crate) fn play<Y: Yard>(
     match deed {
         LineDeed::Try { tree, range } => ask(yard, pass, turn, *tree, range),
         LineDeed::End => end(yard, pass, turn, Outcome::Done),
-        _ => unreachable!(),
+        LineDeed::Lock { .. } | LineDeed::Abort | LineDeed::Escalate { .. } | LineDeed::Big => {
+            unreachable!()
+        }
     }
 }

@@ -150,7 +150,8 @@ fn plan_of(trace: &Trace, first: u64) -> YardPlan
 /// Plays a trace by the plain scheduler, over a table of its own: one line after another, and behind the last line
 /// each transaction that has not ended is ended, in ascending order.
 ///
-/// The first event has the place `first`. The only error is want of memory.
+/// The first event has the place `first`. That is at most 2^38, and a run makes few events, so that no look of the run
+/// shows a full history. The table need serve one pass alone. The only error is want of memory.
 pub fn run_serial<Y: Yard>(
     alloc: Global,
     trace: &Trace,

@@ -1,18 +1,18 @@
 //! Transactions as they are played.
 ghost use Rattle.std.specs.Prelude.{◌≡◌, ◌<◌, ◌≤◌, [], ◌∷◌, ◌++◌, None, Some, false, length, replicate, slice_set, slice_index_or, IfOk, OnOk, is_some};
-ghost use Rattle.lt_runner.specs.Turn.{answered_by, nothing_recorded, reply_in};
+ghost use Rattle.lt_runner.specs.Turn.{answered_by, nothing_recorded};
 ghost use Rattle.lt_runner.specs.Serial.{ended_in};
 ghost use Rattle.lt_runner.specs.AtOnce.{fresh_turn};
 
 use lt_history::{Ended, Outcome};
 use lt_ranges::KeyRange;
-use lt_seq::{Deed, Reply};
+use lt_seq::Reply;
 use std::alloc::{AllocError, Global};
 use std::marker::Model;
 
 /// What a transaction was granted in a tree.
 #[derive(Debug, Drop)]
-pub struct Recorded {
+pub(crate) struct Recorded {
     pub(crate) ranges: Vec<KeyRange>,
     /// Whether the last grant went into a buffer, which one free gives back whole.
     pub(crate) buffered: bool,
@@ -58,7 +58,7 @@ fn nothing_recorded(alloc: Global, trees: u32) -> Result<Vec<Recorded>, AllocErr
 
 /// A transaction that is played. Each of its lines is played at once.
 #[derive(Debug, Drop)]
-pub struct Turn {
+pub(crate) struct Turn {
     pub(crate) txn: u64,
     /// By tree.
     pub(crate) recorded: Vec<Recorded>,
@@ -105,23 +105,17 @@ impl Turn {
         &mut self,
         tree: u32,
         range: &KeyRange,
-        deed: &Deed,
+        reply: &Reply,
     ) -> Result<(), AllocError>
         requires tree { tree < length self.old.recorded }
         requires lines { self.old.lines ≡ [] }
         requires waits { self.old.waits ≡ false }
-        ensures { OnOk result (self.new ≡ answered_by tree range.now (reply_in deed.now) self.old) }
+        ensures { OnOk result (self.new ≡ answered_by tree range.now reply.now self.old) }
     {
-        let buffered = match deed {
-            Deed::Ask {
-                reply: Reply::HeldBy(_),
-                ..
-            } => return Ok(()),
-            Deed::Ask {
-                reply: Reply::Buffered,
-                ..
-            } => true,
-            _ => false,
+        let buffered = match reply {
+            Reply::Granted => false,
+            Reply::Buffered => true,
+            Reply::HeldBy(_) => return Ok(()),
         };
         self.recorded[tree as usize].add(range, buffered)
     }

@@ -5,15 +5,14 @@ use Rattle.lt_runner.specs.AtOnce.{IsAlone, HasPlaces, freed, owed_in}
 use Rattle.lt_runner.proofs.play.free_all.Given as goal
 
 -- what is left goes on from here
-abbrev pub invariant-loop-in_tree : goal.invariant-loop-in_tree
-invariant-loop-in_tree g l =
+abbrev pub invariant-loop-tree : goal.invariant-loop-tree
+invariant-loop-tree g l =
     let view = g.Y.Pass.Pass.view in
     let setting = g.Y.Yard.setting l.yard in
     record {
       of : g.Y.Pass.Pass.origin l.pass ≡ origin_of (g.Y.Yard.identity l.yard) setting;
       alone : IsAlone setting (view l.pass);
-      tree : l.tree ≡ l.in_tree-index;
-      places : HasPlaces setting (view l.pass).front (sum_by owed_in (drop l.in_tree-index l.recorded));
-      freed : freed setting l.txn (releases_from l.tree (drop l.in_tree-index l.recorded)) (view l.pass).front
+      places : HasPlaces setting (view l.pass).front (sum_by owed_in (drop l.tree l.recorded));
+      freed : freed setting l.txn (releases_from l.tree (drop l.tree l.recorded)) (view l.pass).front
           ≡ freed setting l.txn (releases_from 0 l.recorded) (view l.fn.pass).front;
     }
