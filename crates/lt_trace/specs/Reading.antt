@@ -5,6 +5,7 @@ use Rattle.lt_ranges.specs.declared.key.Key.{Key}
 use Rattle.lt_ranges.specs.Interval.{Interval}
 use Rattle.lt_ranges.specs.KeyText.{is_long}
 use Rattle.lt_trace.specs.declared.header.Header.{Header}
+use Rattle.lt_trace.specs.declared.header_form.HeaderForm as header_form
 use Rattle.lt_trace.specs.declared.key_words.KeyWord.{KeyWord}
 use Rattle.lt_trace.specs.declared.key_words.KeyWord.TheVariants.{Fits, Long}
 use Rattle.lt_trace.specs.declared.key_words.Ends.{Ends}
@@ -15,7 +16,11 @@ use Rattle.lt_trace.specs.declared.fault.TraceFault.{TraceFault}
 use Rattle.lt_trace.specs.declared.line.Line.{Line}
 use Rattle.lt_trace.specs.declared.line.LineDeed.{LineDeed}
 use Rattle.lt_trace.specs.declared.line.LineDeed.TheVariants.{Try, End}
-use Rattle.lt_trace.specs.Grammar.{line_text, Forms, fault_of_form, Front, IsFront, IsFaultless, IsBodyFault}
+use Rattle.lt_trace.specs.Grammar.{HeaderForm, line_text, Forms, fault_of_form, Front, IsFront, IsFaultless, IsBodyFault}
+
+-- the form of a header line as the grammar has it
+abbrev pub form_of : header_form.HeaderForm → HeaderForm
+form_of form = record { word = form.word.now; least = form.least; most = form.most }
 
 -- the numbers in their order
 abbrev pub numbers : Header → List ℕ

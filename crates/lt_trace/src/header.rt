@@ -1,39 +1,38 @@
 //! The header of a trace.
 ghost use Rattle.std.specs.Prelude.{◌≡◌, ℕ, ◌+◌, ◌≤◌, ◌++◌, ◌∷◌, IfOk, IfErr, IfSome, IsNone, length, Some, codes};
-ghost use Rattle.lt_trace.specs.Grammar.{HeaderForm, header_line, IsNoHeader, IsHeaderFault, header_forms, header_text, AreInForm, IsFirstFault};
-ghost use Rattle.lt_trace.specs.Reading.{numbers};
+ghost use Rattle.lt_trace.specs.Grammar.{header_line, IsNoHeader, IsHeaderFault, header_forms, header_text, AreInForm, IsFirstFault};
+ghost use Rattle.lt_trace.specs.Reading.{form_of, numbers};
 
 use crate::cut::strip;
 use crate::fault::TraceFault;
+use crate::header_form::{BUFFER, HeaderForm, LIMIT, TREES, VERSION};
 use crate::numbers::number;
 use crate::text_line::take_line;
 
 /// The number of a header line: None exactly where the text is no such line.
-fn header_number(text: &[u8], word: &[u8], least: u64, most: u64) -> Option<u64>
-    ensures found { IfSome result (λ n. (least ≤ n) × (n ≤ most) × (text.now ≡ header_line (record { word = word.now; least = least; most = most }) n)) }
-    ensures none { IsNone result → IsNoHeader (record { word = word.now; least = least; most = most }) text.now }
+fn header_number(text: &[u8], form: HeaderForm) -> Option<u64>
+    ensures found { IfSome result (λ n. (form.least ≤ n) × (n ≤ form.most) × (text.now ≡ header_line (form_of form) n)) }
+    ensures none { IsNone result → IsNoHeader (form_of form) text.now }
 {
-    let rest = strip(text, word)?;
+    let rest = strip(text, form.word)?;
     let digits = strip(rest, b" ")?;
-    number(digits, least, most)
+    number(digits, form.least, form.most)
 }
 
 /// The number of the header line that comes first, and the bytes behind that line.
 fn header_line<'a>(
     bytes: &'a [u8],
     line: u32,
-    word: &[u8],
-    least: u64,
-    most: u64,
+    form: HeaderForm,
 ) -> Result<(u64, &'a [u8]), TraceFault>
-    ensures found { IfOk result (λ r. (least ≤ r.0) × (r.0 ≤ most) × (bytes.now ≡ header_line (record { word = word.now; least = least; most = most }) r.0 ++ codes "\n" ++ r.1.now)) }
-    ensures fault { IfErr result (λ f. IsHeaderFault (record { word = word.now; least = least; most = most }) line bytes.now f) }
+    ensures found { IfOk result (λ r. (form.least ≤ r.0) × (r.0 ≤ form.most) × (bytes.now ≡ header_line (form_of form) r.0 ++ codes "\n" ++ r.1.now)) }
+    ensures fault { IfErr result (λ f. IsHeaderFault (form_of form) line bytes.now f) }
 {
     if bytes.is_empty() {
         return Err(TraceFault::BadHeader { line });
     }
     let (text, rest) = take_line(bytes, line)?;
-    let Some(n) = header_number(text, word, least, most) else {
+    let Some(n) = header_number(text, form) else {
         return Err(TraceFault::BadHeader { line });
     };
     Ok((n, rest))
@@ -53,10 +52,10 @@ pub(crate) fn read_header(bytes: &[u8]) -> Result<(Header, &[u8]), TraceFault>
     ensures found { IfOk result (λ r. AreInForm header_forms (numbers r.0) × (bytes.now ≡ header_text header_forms (numbers r.0) ++ r.1.now)) }
     ensures fault { IfErr result (λ f. IsFirstFault bytes.now f) }
 {
-    let (version, rest) = header_line(bytes, 1, b"rangelock", 1, 2)?;
-    let (trees, rest) = header_line(rest, 2, b"trees", 1, 16)?;
-    let (limit, rest) = header_line(rest, 3, b"limit", 1, 65_536)?;
-    let (buffer, rest) = header_line(rest, 4, b"buffer", 0, 0)?;
+    let (version, rest) = header_line(bytes, 1, VERSION)?;
+    let (trees, rest) = header_line(rest, 2, TREES)?;
+    let (limit, rest) = header_line(rest, 3, LIMIT)?;
+    let (buffer, rest) = header_line(rest, 4, BUFFER)?;
     let header = Header {
         version: version as u32,
         trees: trees as u32,

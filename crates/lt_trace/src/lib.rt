@@ -7,6 +7,7 @@ mod cut;
 pub mod fault;
 mod form;
 mod header;
+mod header_form;
 mod key_words;
 pub mod laws;
 pub mod line;

@@ -4,6 +4,7 @@ ghost use Rattle.lt_ranges.specs.KeyText.{spaced};
 ghost use Rattle.lt_trace.specs.Grammar.{deed_text, line_text, front_text, whole, Spells};
 ghost use Rattle.lt_trace.specs.Reading.{body_text};
 
+use crate::header_form::{BUFFER, LIMIT, TREES, VERSION};
 use crate::line::{Line, LineDeed};
 use crate::trace::Trace;
 use itoa::Buffer;
@@ -68,10 +69,10 @@ pub fn write(alloc: Global, trace: &Trace) -> Result<Vec<u8>, AllocError>
     ensures again { (bytes : List ℕ) → Spells bytes trace.now → IfOk result (λ written. written.items ≡ bytes) }
 {
     let mut out = Vec::new(alloc);
-    push_header_line(&mut out, b"rangelock", u64::from(trace.version()))?;
-    push_header_line(&mut out, b"trees", u64::from(trace.trees()))?;
-    push_header_line(&mut out, b"limit", trace.limit())?;
-    push_header_line(&mut out, b"buffer", trace.buffer())?;
+    push_header_line(&mut out, VERSION.word, u64::from(trace.version()))?;
+    push_header_line(&mut out, TREES.word, u64::from(trace.trees()))?;
+    push_header_line(&mut out, LIMIT.word, trace.limit())?;
+    push_header_line(&mut out, BUFFER.word, trace.buffer())?;
     push_lines(&mut out, trace.lines())?;
     Ok(out)
 }
