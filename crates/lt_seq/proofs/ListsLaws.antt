@@ -35,7 +35,7 @@ pub calls_own : (place pass : ℕ) (events : List Event) (r : Receipt) → Conta
 calls_own place pass [] r (k, inside, is) = absurd (omega (arith, inside))
 calls_own place pass (e ∷ es) r there =
     in_if (λ x. x.event.pass ≡ pass) (e.pass == pass) (record { place = place; event = e }) r (calls_from (place + 1) pass es)
-        (λ own. grind (arith, nat_tests, own)) (calls_own (place + 1) pass es r) there
+    (λ own. grind (arith, nat_tests, own)) (calls_own (place + 1) pass es r) there
 
 -- a receipt of a list is one of the history's
 pub calls_there : (place pass : ℕ) (events : List Event) (r : Receipt) → Contains (calls_from place pass events) r → Contains (all_receipts place events) r
@@ -43,14 +43,14 @@ calls_there place pass [] r there = there
 calls_there place pass (e ∷ es) r there =
     let x : Receipt = record { place = place; event = e } in
     in_if (λ y. Contains (x ∷ all_receipts (place + 1) es) y) (e.pass == pass) x r (calls_from (place + 1) pass es)
-        (λ own. (0, omega arith, refl)) (λ later. there_later x r (all_receipts (place + 1) es) (calls_there (place + 1) pass es r later)) there
+    (λ own. (0, omega arith, refl)) (λ later. there_later x r (all_receipts (place + 1) es) (calls_there (place + 1) pass es r later)) there
 
 -- and each of the history's is in the list of its pass
 pub its_calls : (place : ℕ) (events : List Event) (r : Receipt) → Contains (all_receipts place events) r → Contains (calls_from place r.event.pass events) r
 its_calls place [] r there = there
 its_calls place (e ∷ es) r (zero, inside, is) =
     there_first (e.pass == r.event.pass) (record { place = place; event = e }) r (calls_from (place + 1) r.event.pass es)
-        (let same = ap (λ (x : Receipt). x.event.pass) is in grind (arith, nat_tests, same)) is
+    (let same = ap (λ (x : Receipt). x.event.pass) is in grind (arith, nat_tests, same)) is
 its_calls place (e ∷ es) r (suc k, inside, is) =
     there_if (e.pass == r.event.pass) (record { place = place; event = e }) r (calls_from (place + 1) r.event.pass es) (its_calls (place + 1) es r (k, omega (arith, inside), is))
 

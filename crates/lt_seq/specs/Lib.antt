@@ -2,7 +2,7 @@ pub mod Pairs
 pub mod Table
 pub mod Sound
 pub mod History
-pub mod Rows
+pub mod WorkedHistories
 pub mod Yard
 pub mod Alone
 pub mod Passes

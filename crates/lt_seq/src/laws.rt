@@ -16,17 +16,17 @@ ghost use Rattle.lt_seq.specs.declared.fault.Fault.{Fault};
 ghost use Rattle.lt_seq.specs.Joins.{Joins, holds};
 ghost use Rattle.lt_seq.specs.Sound.{IsLawfulTable};
 ghost use Rattle.lt_seq.specs.KeepsLocks.{KeepsLocks};
-ghost use Rattle.lt_seq.specs.Rows.{WorkedRows};
+ghost use Rattle.lt_seq.specs.WorkedHistories.{WorkedHistories};
 ghost use Rattle.lt_seq.specs.Table.{Setting, TreeState, opening, step, tree_at, used};
 ghost use Rattle.lt_seq.specs.History.{after, IsLegal, IsNext, calls_from};
-ghost use Rattle.lt_seq.specs.Yard.{PassView, HasAll, Answers, AskAnswers, place_after};
+ghost use Rattle.lt_seq.specs.Yard.{PassView, HasAll, Answers, AskAnswers, place_after, places_end};
 ghost use Rattle.lt_seq.specs.Passes.{RightsAndFronts, opening_passes, IsInOneList};
 ghost use Rattle.lt_seq.specs.Questions.{all_receipts};
 ghost use Rattle.lt_seq.specs.Alone.{AloneAnswers, AloneAskAnswers, IsDone};
 
-/// The worked rows come out so.
-pub fn worked_rows()
-    ensures { WorkedRows }
+/// Small histories are legal, and leave these tables.
+pub fn worked_histories()
+    ensures { WorkedHistories }
 {}
 
 /// A history goes on by one event.
@@ -97,6 +97,6 @@ pub fn alone_answers()
 /// So a call of such a pass makes its event unless memory is short, where the place of the next event is below 2^39,
 /// and for an ask the rows in use below the limit.
 pub fn alone_completeness()
-    ensures ask { (setting : Setting) (old new : PassView) (txn : ℕ) (deed : Deed) (result : Result Receipt Fault) → AskAnswers setting old new txn deed result → HasAll setting old → place_after setting old.front < 2 ^ 39 → used (after setting old.front) < setting.plan.limit → IsDone result }
-    ensures others { (setting : Setting) (old new : PassView) (txn : ℕ) (deed : Deed) (result : Result Receipt Fault) → Answers setting old new txn deed result → HasAll setting old → place_after setting old.front < 2 ^ 39 → IsDone result }
+    ensures ask { (setting : Setting) (old new : PassView) (txn : ℕ) (deed : Deed) (result : Result Receipt Fault) → AskAnswers setting old new txn deed result → HasAll setting old → place_after setting old.front < places_end → used (after setting old.front) < setting.plan.limit → IsDone result }
+    ensures others { (setting : Setting) (old new : PassView) (txn : ℕ) (deed : Deed) (result : Result Receipt Fault) → Answers setting old new txn deed result → HasAll setting old → place_after setting old.front < places_end → IsDone result }
 {}
