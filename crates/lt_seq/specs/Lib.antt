@@ -10,3 +10,4 @@ pub mod Questions
 pub mod Joins
 pub mod KeepsLocks
 pub mod SeqPass
+pub mod Laws
