@@ -1,6 +1,5 @@
 -- Laws of the plain pass.
 use Rattle.std.proofs.Common.{◌≡◌, suc, ◌+◌, ◌^◌, ◌<◌, ◌≤◌, List, [], ◌∷◌, ◌++◌, length, slice_set, map, refl, sym, ap, subst, ◌∙◌, arith, length-append}
-use Rattle.lt_seq.specs.declared.event.Event.{Event}
 use Rattle.lt_seq.specs.declared.event.Receipt.{Receipt}
 use Rattle.lt_seq.specs.declared.plan.YardPlan.{YardPlan}
 use Rattle.lt_seq.specs.Table.{Setting, TreeState, step, tree_at, tree_of, tree_after, replied, used}

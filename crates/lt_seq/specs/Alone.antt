@@ -1,5 +1,5 @@
 -- What the calls of a pass that has all the rights come to: no other pass acts, so that all happens at once.
-use Rattle.std.specs.Prelude.{◌≡◌, ℕ, ◌^◌, ◌<◌, ◌≤◌, List, Result, Ok, Err}
+use Rattle.std.specs.Prelude.{◌≡◌, ℕ, ◌<◌, ◌≤◌, List, Result, Ok, Err}
 use Rattle.lt_seq.specs.declared.event.Deed.{Deed}
 use Rattle.lt_seq.specs.declared.event.Event.{Event}
 use Rattle.lt_seq.specs.declared.event.Receipt.{Receipt}
@@ -7,7 +7,7 @@ use Rattle.lt_seq.specs.declared.fault.Fault.{Fault}
 use Rattle.lt_seq.specs.declared.fault.Fault.TheVariants.{OutOfMemory, Busy, HistoryFull, OutOfLocks}
 use Rattle.lt_seq.specs.Table.{Setting, used}
 use Rattle.lt_seq.specs.History.{after}
-use Rattle.lt_seq.specs.Yard.{PassView, OneMore, IsSound, IsFull, IsOutOfLocks, place_after}
+use Rattle.lt_seq.specs.Yard.{PassView, OneMore, IsSound, IsFull, IsOutOfLocks, place_after, places_end}
 
 -- a pass after a call that made no event: it has neither done nor seen anything more
 pub record Stays (setting : Setting) (old new : PassView) : Type 0 where
@@ -36,14 +36,14 @@ AloneAskCaused setting events (OutOfLocks place used_rows) = IsOutOfLocks settin
 -- the answer of a call other than an ask: one event more, where there is a place for it
 abbrev pub AloneAnswers : Setting → PassView → PassView → ℕ → Deed → Result Receipt Fault → Type 0
 AloneAnswers setting old new txn deed (Ok receipt) =
-    OneMore setting old new txn deed receipt × IsSound setting new × (place_after setting old.front < 2 ^ 39)
+    OneMore setting old new txn deed receipt × IsSound setting new × (place_after setting old.front < places_end)
 AloneAnswers setting old new txn deed (Err fault) = Stays setting old new × AloneCaused setting old.front fault
 
 -- the answer of an ask: one event more, where there is a place and a row for it
 abbrev pub AloneAskAnswers : Setting → PassView → PassView → ℕ → Deed → Result Receipt Fault → Type 0
 AloneAskAnswers setting old new txn deed (Ok receipt) =
     OneMore setting old new txn deed receipt × IsSound setting new
-    × (place_after setting old.front < 2 ^ 39) × (used (after setting old.front) < setting.plan.limit)
+    × (place_after setting old.front < places_end) × (used (after setting old.front) < setting.plan.limit)
 AloneAskAnswers setting old new txn deed (Err fault) = Stays setting old new × AloneAskCaused setting old.front fault
 
 -- the call made its event, or memory was short

@@ -2,7 +2,7 @@ pub mod Pairs
 pub mod Table
 pub mod Sound
 pub mod History
-pub mod Rows
+pub mod WorkedHistories
 pub mod Yard
 pub mod Alone
 pub mod Passes
@@ -10,3 +10,4 @@ pub mod Questions
 pub mod Joins
 pub mod KeepsLocks
 pub mod SeqPass
+pub mod Laws

@@ -1,5 +1,5 @@
 -- What the pass of a plain table keeps.
-use Rattle.std.specs.Prelude.{◌≡◌, ℕ, ◌+◌, ◌^◌, ◌≤◌, List, [], length, map}
+use Rattle.std.specs.Prelude.{◌≡◌, ℕ, ◌+◌, ◌≤◌, List, [], length, map}
 use Rattle.lt_seq.specs.declared.event.Held.{Held}
 use Rattle.lt_seq.specs.declared.event.Pair.{Pair}
 use Rattle.lt_seq.specs.declared.event.Receipt.{Receipt}
@@ -7,7 +7,7 @@ use Rattle.lt_seq.specs.declared.plan.YardPlan.{YardPlan}
 use Rattle.lt_seq.specs.Table.{Setting, TreeState}
 use Rattle.lt_seq.specs.History.{after, IsLegal, calls_from}
 use Rattle.lt_seq.specs.Questions.{events_of}
-use Rattle.lt_seq.specs.Yard.{IsPlan, Origin, PassView}
+use Rattle.lt_seq.specs.Yard.{IsPlan, Origin, PassView, places_end}
 
 -- no marks are set
 abbrev pub plain : YardPlan → Setting
@@ -33,7 +33,7 @@ pub record IsSequential (sizes : YardPlan) (now : List TreeState) (made : List R
   pub trees : now ≡ after (plain sizes) (events_of made)
   pub legal : IsLegal (plain sizes) (events_of made)
   pub mine : made ≡ calls_from sizes.first 0 (events_of made)
-  pub room : sizes.first + length made ≤ 2 ^ 39
+  pub room : sizes.first + length made ≤ places_end
 
 -- the pairs of one tree
 abbrev pub held_in : ℕ → List Pair → List Held

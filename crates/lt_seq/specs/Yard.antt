@@ -11,6 +11,10 @@ use Rattle.lt_seq.specs.declared.plan.YardPlan.{YardPlan}
 use Rattle.lt_seq.specs.Table.{Setting, tree_at, tree_of, replied, used}
 use Rattle.lt_seq.specs.History.{after, IsLegal, IsFront, calls_from}
 
+-- the place from which on no call makes an event
+abbrev pub places_end : ℕ
+places_end = 2 ^ 39
+
 -- the sizes that a table may have
 pub record IsPlan (plan : YardPlan) : Type 0 where
   pub trees : 1 ≤ plan.trees
@@ -20,7 +24,7 @@ pub record IsPlan (plan : YardPlan) : Type 0 where
   pub buffer_most : plan.buffer ≤ 65536
   pub passes : 1 ≤ plan.passes
   pub passes_most : plan.passes ≤ 17
-  pub first_most : plan.first ≤ 2 ^ 39
+  pub first_most : plan.first ≤ places_end
 
 -- Which yard a pass was made for: plain data, so that a type can name the yard of the passes that it holds.
 pub record Origin : Type 0 where
@@ -92,7 +96,7 @@ event_after setting events pass txn deed =
 pub record Happens (setting : Setting) (old new : PassView) (txn : ℕ) (deed : Deed) (seen before : List Event) (receipt : Receipt) : Type 0 where
   pub looked : IsFront old.front seen
   pub waited : IsFront seen before
-  pub room : place_after setting seen < 2 ^ 39
+  pub room : place_after setting seen < places_end
   pub event : receipt.event ≡ event_after setting before old.number txn deed
   pub place : receipt.place ≡ place_after setting before
   pub front : new.front ≡ before ++ receipt.event ∷ []
@@ -113,7 +117,7 @@ pub record FaultAt (setting : Setting) (old new : PassView) (seen : List Event) 
 
 -- the row was held by another pass, this pass has not all the rights, and its look showed a place at which an event could be made
 pub record IsBusy (setting : Setting) (old new : PassView) (seen : List Event) (row holder : ℕ) : Type 0 where
-  pub room : place_after setting seen < 2 ^ 39
+  pub room : place_after setting seen < places_end
   pub rose : Rose old.met new.met
   pub row_is : row ≡ new.met_row
   pub holder_is : holder ≡ new.met_holder
@@ -122,12 +126,12 @@ pub record IsBusy (setting : Setting) (old new : PassView) (seen : List Event) (
 -- a look showed a place from which on no call makes an event
 pub record IsFull (setting : Setting) (seen : List Event) (place : ℕ) : Type 0 where
   pub place_is : place ≡ place_after setting seen
-  pub full : 2 ^ 39 ≤ place
+  pub full : places_end ≤ place
 
 -- a look showed that no row is left below the limit, and a place at which an event could be made
 pub record IsOutOfLocks (setting : Setting) (seen : List Event) (place used_rows : ℕ) : Type 0 where
   pub place_is : place ≡ place_after setting seen
-  pub room : place < 2 ^ 39
+  pub room : place < places_end
   pub used_is : used_rows ≡ used (after setting seen)
   pub full : setting.plan.limit ≤ used_rows
 

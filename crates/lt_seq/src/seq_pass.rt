@@ -3,7 +3,7 @@ ghost use Rattle.std.specs.Prelude.{◌≡◌, ◌^◌, ◌≤◌, ◌<◌, [], 
 ghost use Rattle.lt_seq.specs.declared.event.Deed.TheVariants.{Ask, Free};
 ghost use Rattle.lt_seq.specs.declared.event.Reply.TheVariants.{Granted};
 ghost use Rattle.lt_seq.specs.Table.{fresh, tree_at, ask_reply, after_ask, free_count, after_free};
-ghost use Rattle.lt_seq.specs.Yard.{shows, place_after, OneMore, IsSound, IsPlan};
+ghost use Rattle.lt_seq.specs.Yard.{shows, place_after, places_end, OneMore, IsSound, IsPlan};
 ghost use Rattle.lt_seq.specs.Passes.{IsRest, held_from};
 ghost use Rattle.lt_seq.specs.SeqPass.{plain, alone_view};
 
@@ -43,8 +43,9 @@ impl Pass for SeqPass {
     ghost view = { λ s. s.view };
 
     fn number(&self) -> u32 {
-        // There is one pass, and numbers begin at 0.
-        self.plan.passes - 1
+        // For the prover: what was read of a pass says what is seen of it.
+        let _passes = self.plan.passes;
+        0
     }
 
     fn rights(&self) -> u32 {
@@ -90,13 +91,13 @@ impl SeqPass {
         range: &KeyRange,
     ) -> Result<Receipt, AllocError>
         requires tree { tree < self.old.plan.trees }
-        requires room { place_after (plain self.old.plan) self.old.view.front < 2 ^ 39 }
+        requires room { place_after (plain self.old.plan) self.old.view.front < places_end }
         ensures plan { self.new.plan ≡ self.old.plan }
         ensures sound { IsSound (plain self.new.plan) self.new.view }
         ensures ok { IfOk result (λ r. OneMore (plain self.old.plan) self.old.view self.new.view txn (Ask tree range.now Granted) r) }
         ensures err { OnErr result (self.new ≡ self.old) }
     {
-        // A range's left end is at most its right one.
+        // For the prover: a range that was read has its left end at most at its right one.
         let _left = range.left();
         let reply = reply_in(&self.trees, tree, self.alloc, self.plan.buffer, txn, range)?;
         let kept = reply.again()?;
@@ -118,13 +119,13 @@ impl SeqPass {
         first: bool,
     ) -> Result<Receipt, AllocError>
         requires tree { tree < self.old.plan.trees }
-        requires room { place_after (plain self.old.plan) self.old.view.front < 2 ^ 39 }
+        requires room { place_after (plain self.old.plan) self.old.view.front < places_end }
         ensures plan { self.new.plan ≡ self.old.plan }
         ensures sound { IsSound (plain self.new.plan) self.new.view }
         ensures ok { IfOk result (λ r. OneMore (plain self.old.plan) self.old.view self.new.view txn (Free tree range.now first 0) r) }
         ensures err { OnErr result (self.new ≡ self.old) }
     {
-        // A range's left end is at most its right one.
+        // For the prover: a range that was read has its left end at most at its right one.
         let _left = range.left();
         self.mine.reserve(1)?;
         let place = self.plan.first + self.mine.len() as u64;

@@ -65,6 +65,8 @@ pub trait Yard: Sync + Sized + Drop {
     ghost setting: { Self → Setting };
 
     /// A fresh table with its passes, numbered from 0. The first has all the rights.
+    ///
+    /// The only error is want of memory, and then there is no table.
     fn build(alloc: Global, plan: &YardPlan) -> Result<(Self, Vec<Self::Pass>), AllocError>
         requires plan { IsPlan plan.now }
         requires passes { plan.now.passes ≤ MOST_PASSES }
@@ -82,9 +84,11 @@ pub trait Yard: Sync + Sized + Drop {
 
     /// Asks for a range. It is granted, buffered, or held by others, whom the reply names.
     ///
-    /// `OutOfLocks` comes where a look of this call shows that the rows in use have reached the limit. `HistoryFull`
-    /// comes where it shows a place of 2^39 or more, and `Busy` where a row was found held by another pass.
-    /// After a fault there is no event of this call.
+    /// The call looks first. `HistoryFull` comes exactly where the look shows a place of 2^39 or more, and `OutOfLocks`
+    /// exactly where it shows a lower place and that the rows in use have reached the limit. `Busy` comes only where
+    /// the look showed room, a row was then found held by another pass, and this pass has not all the rights.
+    /// `OutOfMemory` may come at any moment. After a fault there is no event of this call, and the table is as others
+    /// make it.
     fn ask(
         &self,
         pass: &mut Self::Pass,
@@ -102,7 +106,7 @@ pub trait Yard: Sync + Sized + Drop {
     /// Frees the transaction's ranges that overlap the range, and counts them. `first` tells that this is the
     /// first free of a release in this tree.
     ///
-    /// The faults are those of `ask` but for `OutOfLocks`.
+    /// The faults are those of `ask`, where they come there, but for `OutOfLocks`: the limit bounds no free.
     fn free(
         &self,
         pass: &mut Self::Pass,
@@ -120,6 +124,8 @@ pub trait Yard: Sync + Sized + Drop {
 
     /// Ends the table, and tells its whole history, its rows in use and what is still held. The passes are all of
     /// the table's, in the order of their numbers, and the first has all the rights.
+    ///
+    /// The only error is want of memory. Then the table and its passes are gone, with their receipts.
     fn close(self, alloc: Global, passes: Vec<Self::Pass>) -> Result<Closed, AllocError>
         requires of { AllByRecursion (λ p. Self.Pass.origin p ≡ origin_of (identity self) (setting self)) passes.items }
         requires all { AreAll (setting self) (map Self.Pass.view passes.items) }
