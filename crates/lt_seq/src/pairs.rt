@@ -22,9 +22,9 @@ pub(crate) fn free(pairs: &mut Vec<Pair>, txn: u64, range: &KeyRange) -> usize
     ensures room { vec_capacity pairs.new ≡ vec_capacity pairs.old }
     ensures fewer { vec_len pairs.new ≤ vec_len pairs.old }
 {
-    let count = pairs.iter().filter(|pair| is_own(pair, txn, range)).count();
+    let before = pairs.len();
     pairs.retain(|pair| !is_own(pair, txn, range));
-    count
+    before - pairs.len()
 }
 
 /// The least range that covers the range and the transaction's ranges that overlap it.
