@@ -24,7 +24,8 @@ HangBetween [] (l ∷ m ∷ ls) = ⊥
 HangBetween (r ∷ rows) [] = ⊥
 HangBetween (r ∷ rows) (l ∷ ls) = HangBetween rows ls
 
-between_app : (xs ys : List PartRow) (r : PartRow) (ls ms : List ℕ) → HangBetween xs ls → HangBetween ys ms → HangBetween (xs ++ r ∷ ys) (ls ++ ms)
+between_app : (xs ys : List PartRow) (r : PartRow) (ls ms : List ℕ) → HangBetween xs ls → HangBetween ys ms
+    → HangBetween (xs ++ r ∷ ys) (ls ++ ms)
 between_app [] ys r [] ms e f = absurd e
 between_app [] ys r (l ∷ []) ms e f = f
 between_app [] ys r (l ∷ m ∷ ls) ms e f = absurd e
