@@ -23,8 +23,9 @@ pub fn prefix_endpoints_come_last()
     ensures range { (front : List ℕ) (key : Key) → has (prefix_range front) key ≡ begins_with front key }
 {}
 
-/// Ranges by the keys that they have: two overlap exactly where they share a key, one covers another
-/// that is not backwards exactly where it has every key of it, and the hull is the least over both.
+/// Ranges by the keys that they have. Two that are not backwards overlap exactly where they share a
+/// key, a range covers one that is not backwards exactly where it has every key of it, and the hull is
+/// the least over both.
 #[tactic(auto, using(crate::proofs::IntervalLaws::overlap_by_keys, crate::proofs::IntervalLaws::covers_by_keys))]
 pub fn ranges_by_their_keys()
     ensures overlap { (a b : Interval) → IsInterval a → IsInterval b → OverlapsByKeys a b }
