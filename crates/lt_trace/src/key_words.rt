@@ -9,6 +9,9 @@ ghost use Rattle.lt_trace.specs.Reading.{IsKeyWord, AreEnds};
 use crate::cut::{cut, strip};
 use lt_ranges::{Key, TextFault};
 
+/// The first version of the text that has prefix endpoints.
+const ENDPOINT_VERSION: u32 = 2;
+
 /// A key, or that the text spells one of more than 63 bytes.
 #[derive(Clone, Copy)]
 pub(crate) enum KeyWord {
@@ -34,7 +37,7 @@ fn has_star(text: &[u8]) -> bool
 fn read_key(version: u32, text: &[u8]) -> Option<KeyWord>
     ensures { MatchOption result ((key : Key) → IsKeyForm version key → text.now ≢ key_text key) (λ word. (key : Key) × IsKeyForm version key × (text.now ≡ key_text key) × IsKeyWord word key) }
 {
-    if version < 2 && has_star(text) {
+    if version < ENDPOINT_VERSION && has_star(text) {
         return None;
     }
     match Key::read(text) {
