@@ -3,8 +3,7 @@ use Rattle.std.proofs.Common.{◌≡◌, ℕ, zero, suc, ◌+◌, ◌<◌, ◌�
 use Rattle.std.specs.List.{AllByRecursion}
 use Rattle.lt_ranges.specs.Interval.{Interval, IsInterval, whole}
 use Rattle.lt_ranges.specs.Key.{key_le}
-use Rattle.lt_seq.specs.declared.event.Deed.{Deed}
-use Rattle.lt_seq.specs.declared.event.Deed.TheVariants.{Ask, Free, Who, Join}
+use Rattle.lt_seq.specs.declared.event.Deed.TheVariants.{Free}
 use Rattle.lt_seq.specs.declared.event.Reply.{Reply}
 use Rattle.lt_seq.specs.declared.event.Reply.TheVariants.{Granted, Buffered, HeldBy}
 use Rattle.lt_seq.specs.declared.event.Event.{Event}
@@ -21,15 +20,9 @@ use Rattle.lt_runner.specs.Turn.{releases_by, releases_in, releases_from, answer
 use Rattle.lt_runner.specs.AtOnce.{IsPlain, Step, step_at, freed, ended_by, lined}
 use Rattle.lt_runner.proofs.LineLaws.{open_turn, try_step}
 
-abbrev pub IsNoJoin : Deed → Type 0
-IsNoJoin (Ask tree range reply) = Unit {0}
-IsNoJoin (Free tree range first count) = Unit {0}
-IsNoJoin (Who tree range named owners) = Unit {0}
-IsNoJoin (Join tree before after) = ⊥
-
--- an event of the transaction, and no join
+-- an event of the transaction
 abbrev pub IsOwn : ℕ → Event → Type 0
-IsOwn txn e = (e.txn ≡ txn) × IsNoJoin e.deed
+IsOwn txn e = e.txn ≡ txn
 
 pub record Grows (setting : Setting) (txn : ℕ) (old new : List Event) : Type 0 where
   pub more : List Event
@@ -43,7 +36,7 @@ grows_not setting txn events = record { more = []; is = sym (append-nil events);
 grows_one : (setting : Setting) (txn : ℕ) (events : List Event) (e : Event) → IsOwn txn e → (IsLegal setting events → IsNext setting (after setting events) e) → Grows setting txn events (events ++ e ∷ [])
 grows_one setting txn events e own next = record { more = e ∷ []; is = refl; own = (own, tt); legal = λ legal. legal_more setting events e legal (next legal) }
 
-all_append : (P : Event → Type 0) (xs ys : List Event) → AllByRecursion P xs → AllByRecursion P ys → AllByRecursion P (xs ++ ys)
+pub all_append : (P : Event → Type 0) (xs ys : List Event) → AllByRecursion P xs → AllByRecursion P ys → AllByRecursion P (xs ++ ys)
 all_append P [] ys all rest = rest
 all_append P (x ∷ xs) ys all rest = (all.0, all_append P xs ys all.1 rest)
 
@@ -65,7 +58,7 @@ grows_freed setting txn [] events pass all = grows_not setting txn events
 grows_freed setting txn (r ∷ rs) events pass all =
     let e = event_after setting events 0 txn (Free r.tree r.range r.first 0) in
     grows_on setting txn events (events ++ e ∷ []) (freed setting txn rs (events ++ e ∷ []))
-    (grows_one setting txn events e (refl, tt) (λ legal. record { pass = pass; tree = all.0.0; question = all.0.1; replies = refl }))
+    (grows_one setting txn events e refl (λ legal. record { pass = pass; tree = all.0.0; question = all.0.1; replies = refl }))
     (grows_freed setting txn rs (events ++ e ∷ []) pass all.1)
 
 all_releases_by : (setting : Setting) (tree : ℕ) (first : Bool) (ranges : List Interval) → tree < setting.plan.trees → AllByRecursion IsInterval ranges → AllByRecursion (IsRelease setting) (releases_by tree first ranges)
@@ -141,7 +134,7 @@ grows_ended setting txn recorded events outcome pass trees clean = record {
 grows_by_room : (setting : Setting) (txn : ℕ) (recorded : List Recorded) (events : List Event) (tree : ℕ) (range : Interval) → 0 < setting.plan.passes → length recorded ≡ setting.plan.trees → AllByRecursion IsClean recorded →
     tree < setting.plan.trees → IsInterval range → (room : Bool) → GrowsBy setting txn events (try_step setting txn recorded events tree range room)
 grows_by_room setting txn recorded events tree range pass trees clean inside one true = record {
-  events = grows_one setting txn events _ (refl, tt) (λ legal. record { pass = pass; tree = inside; question = one; replies = refl });
+  events = grows_one setting txn events _ refl (λ legal. record { pass = pass; tree = inside; question = one; replies = refl });
   clean = clean_answered txn recorded tree range _ clean one;
 }
 grows_by_room setting txn recorded events tree range pass trees clean inside one false = grows_ended setting txn recorded events _ pass trees clean

@@ -92,10 +92,6 @@ all_searched : (setting : Setting) (lines : List Line) (all plays : List Play) �
 all_searched setting lines all [] plain = tt
 all_searched setting lines all (play ∷ plays) plain = (searched_plain setting lines all play.txn play.moves plain.0, all_searched setting lines all plays plain.1)
 
-of_others : (txns : List ℕ) (events : List Event) → AllByRecursion (IsOf txns) events → AllByRecursion (λ e. IsTrue (is_in e.txn txns)) events
-of_others txns [] all = tt
-of_others txns (e ∷ es) all = (all.0.0, of_others txns es all.1)
-
 all_fit : (setting : Setting) (txns : List ℕ) (lines : List Line) → All (IsOfTrace setting) lines → All (λ line. IsTrue (is_in line.txn txns)) lines → AllByRecursion (λ line. AsksRange line.deed) lines →
     AllByRecursion (IsFit setting txns) lines
 all_fit setting txns [] all there ranges = tt
@@ -122,7 +118,7 @@ text_of trace first done =
       legal = runs.legal;
       txns = made.txns ∙ done.leads.numbers;
       played = made.played;
-      others = of_others (txns_of lines) events own;
+      others = own;
       searches = all_searched setting lines made.plays made.plays made.plain;
     } in (
       events,

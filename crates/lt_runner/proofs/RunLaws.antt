@@ -23,7 +23,7 @@ use Rattle.lt_runner.proofs.TurnsLaws.{on_true, on_false}
 use Rattle.lt_runner.proofs.LineLaws.{open_turn, line_with, is_open}
 use Rattle.lt_runner.proofs.ScheduleLaws.{IsPlayed, played_turns, played_numbers, played_keeps}
 use Rattle.lt_runner.proofs.FollowLaws.{Follows, follows_idle, follows_lined, in_play}
-use Rattle.lt_runner.proofs.GrowthLaws.{IsOwn, IsNoJoin, Grows, GrowsBy, IsClean, AsksRange, grows_lined}
+use Rattle.lt_runner.proofs.GrowthLaws.{IsOwn, all_append, Grows, GrowsBy, IsClean, AsksRange, grows_lined}
 
 get_or_any : (turns : List Turn) (i : ℕ) (d e : Turn) → i < length turns → get_or turns i d ≡ get_or turns i e
 get_or_any [] i d e inside = absurd (omega arith)
@@ -52,9 +52,9 @@ lines_for_next txn line rest own = ap (with_end txn) (on_true (line.txn == txn) 
 
 -- Turns that are plays.
 
--- an event of one of the transactions, and no join
+-- an event of one of the transactions
 abbrev pub IsOf : List ℕ → Event → Type 0
-IsOf txns e = IsTrue (is_in e.txn txns) × IsNoJoin e.deed
+IsOf txns e = IsTrue (is_in e.txn txns)
 
 pub record Runs (setting : Setting) (lines : List Line) (left : ℕ → List Line) (events : List Event) (turns : List Turn) : Type 0 where
   pub stand : AreQuiet setting turns
@@ -69,7 +69,7 @@ receipts_none place txn other (e ∷ es) all differs =
     on_false (e.txn == txn) _ _ (by_test (e.txn == txn) refl) ∙ receipts_none (place + 1) txn other es all.1 differs
   where
     by_test : (b : Bool) → (e.txn == txn) ≡ b → (e.txn == txn) ≡ false
-    by_test true h = absurd (differs (let same : e.txn ≡ txn = grind (arith, nat_tests) in sym same ∙ all.0.0))
+    by_test true h = absurd (differs (let same : e.txn ≡ txn = grind (arith, nat_tests) in sym same ∙ all.0))
     by_test false h = h
 
 -- the others stay as they are
@@ -110,13 +110,9 @@ is_in_place (t ∷ ts) (suc i) d inside = or_later (t.txn == (get_or ts i d).txn
     or_later true c e = refl
     or_later false c e = e
 
-all_of : (P : Event → Type 0) (xs ys : List Event) → AllByRecursion P xs → AllByRecursion P ys → AllByRecursion P (xs ++ ys)
-all_of P [] ys all rest = rest
-all_of P (x ∷ xs) ys all rest = (all.0, all_of P xs ys all.1 rest)
-
 own_of : (txns : List ℕ) (txn : ℕ) (more : List Event) → is_in txn txns ≡ true → AllByRecursion (IsOwn txn) more → AllByRecursion (IsOf txns) more
 own_of txns txn [] there all = tt
-own_of txns txn (e ∷ es) there all = ((subst (λ n. is_in n txns ≡ true) (sym all.0.0) there, all.0.1), own_of txns txn es there all.1)
+own_of txns txn (e ∷ es) there all = (subst (λ n. is_in n txns ≡ true) (sym all.0) there, own_of txns txn es there all.1)
 
 -- A step of one turn.
 
@@ -171,7 +167,7 @@ runs_open setting lines left new_left events turns place d deed runs pass inside
       legal = grows.events.legal runs.legal;
       own = subst (λ ns. AllByRecursion (IsOf ns) step.events) (sym numbers)
           (subst (λ es. AllByRecursion (IsOf (numbers_of turns)) es) (sym grows.events.is)
-          (all_of (IsOf (numbers_of turns)) events grows.events.more runs.own (own_of (numbers_of turns) turn.txn grows.events.more (is_in_place turns place d inside) grows.events.own)));
+          (all_append (IsOf (numbers_of turns)) events grows.events.more runs.own (own_of (numbers_of turns) turn.txn grows.events.more (is_in_place turns place d inside) grows.events.own)));
     }
   where
     by_place : (k : ℕ) (e : Turn) → k < length turns →
