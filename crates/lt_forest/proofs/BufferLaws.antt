@@ -63,7 +63,7 @@ module _ {trees rows t q txn count : ℕ} {range : Interval} {c d : Nodes} {mode
     (forest : IsForest trees rows c mode state f) (tree : t < trees)
     (buffer : IsBuffer c (c t).left (f.tree t) (tree_at state t).pairs txn count rs)
     (puts : PutsFirst trees t q txn range c d) (now : mode' t ≡ Buffer txn (count + 1))
-    (only : ChangesOnly (t ∷ trees ∷ q ∷ []) c d) (other_modes : KeepsModes t mode mode') where
+    (only : ChangesOnly (t ∷ trees ∷ q ∷ []) c d) (other_modes : KeepsModes trees t mode mode') where
   rest : BeginsWith c f.pool (q ∷ []) (c q).left
   rest = cut_chain c (c trees).left (q ∷ []) f.pool (c q).left forest.vacant (puts.first_vacant, refl)
 
@@ -123,7 +123,7 @@ no_tree c link (node a r b) leads is = absurd (let e = leads.0 in omega arith)
 module _ {trees rows t q txn : ℕ} {range : Interval} {c d : Nodes} {mode mode' : ℕ → Mode} {state : List TreeState}
     {f : Forest} {setting : Setting}
     (forest : IsForest trees rows c mode state f) (tree : t < trees) (begins : Begins setting trees t q txn range c d (mode t) (mode' t))
-    (only : ChangesOnly (t ∷ trees ∷ q ∷ []) c d) (other_modes : KeepsModes t mode mode') where
+    (only : ChangesOnly (t ∷ trees ∷ q ∷ []) c d) (other_modes : KeepsModes trees t mode mode') where
   bare_tree : TreeAt c (c t).left (f.tree t) (tree_at state t).pairs
   bare_tree = as_tree c (c t).left (f.tree t) (tree_at state t).pairs (mode t) (subst IsTree (sym begins.was) tt) (forest.grown t tree)
 
@@ -172,7 +172,7 @@ module _ {trees rows t q txn count : ℕ} {range : Interval} {c d : Nodes} {mode
     {f : Forest} {setting : Setting}
     (forest : IsForest trees rows c mode state f) (tree : t < trees)
     (appends : Appends setting trees t q txn count range c d (mode t) (mode' t))
-    (only : ChangesOnly (t ∷ trees ∷ q ∷ []) c d) (other_modes : KeepsModes t mode mode') where
+    (only : ChangesOnly (t ∷ trees ∷ q ∷ []) c d) (other_modes : KeepsModes trees t mode mode') where
   old_chain : ChainAt c (c t).left (f.tree t) (tree_at state t).pairs txn count
   old_chain = as_chain c (c t).left (f.tree t) (tree_at state t).pairs (mode t) txn count appends.was (forest.grown t tree)
 
@@ -215,7 +215,7 @@ module _ {trees rows txn owner count : ℕ} {c d : Nodes} {mode mode' : ℕ → 
     {olds : List ℕ} {new : Cut} {taken given : List ℕ} (forest : IsForest trees rows c mode state f) (tree : tree_of deed < trees)
     (ends : Ends setting txn owner count deed (tree_of deed) c d (mode (tree_of deed)) (mode' (tree_of deed)) olds new taken given)
     (pool_moves : MovesPool trees c d taken given) (only : ChangesOnly (tree_of deed ∷ trees ∷ olds ++ taken) c d)
-    (other_modes : KeepsModes (tree_of deed) mode mode') where
+    (other_modes : KeepsModes trees (tree_of deed) mode mode') where
   abbrev t : ℕ
   t = tree_of deed
 
@@ -310,7 +310,7 @@ module _ {trees rows t owner count last : ℕ} {c d : Nodes} {mode mode' : ℕ �
     {front : List ℕ}
     (forest : IsForest trees rows c mode state f) (tree : t < trees)
     (drops : Drops trees t owner count c d (mode t) (mode' t) front last) (only : ChangesOnly (t ∷ trees ∷ last ∷ []) c d)
-    (other_modes : KeepsModes t mode mode') where
+    (other_modes : KeepsModes trees t mode mode') where
   dropping : ChainAt c (c t).left (f.tree t) (tree_at state t).pairs owner count
   dropping = as_chain c (c t).left (f.tree t) (tree_at state t).pairs (mode t) owner count drops.was (forest.grown t tree)
 

@@ -8,7 +8,7 @@ use Rattle.lt_forest.specs.Bounds.{Bound, IsInside, NoGreater, NoLess}
 use Rattle.lt_forest.specs.Trees.{Node, Nodes, pair_of, left_end, right_end, in_order, pairs_in, IsOrdered}
 use Rattle.lt_forest.specs.Cuts.{Cut, end, held, bare, links, End, ends, AllEnds, Looser, EndsBefore, BeginsBehind, AllAside}
 use Rattle.lt_forest.proofs.BoundLaws.{above_more, below_less, above_is, below_is, greater_same, less_same}
-use Rattle.lt_forest.proofs.TreeOrders.{node_has, all_inside}
+use Rattle.lt_forest.proofs.LawfulTrees.{node_has, all_inside}
 use Rattle.lt_forest.proofs.SameRows.{AgreeOn, on_left, on_right, on_here}
 
 pub all_app : (P : End → Type 0) (es fs : List End) → AllEnds P es → AllEnds P fs → AllEnds P (es ++ fs)

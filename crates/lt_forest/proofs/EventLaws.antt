@@ -1,5 +1,5 @@
 -- A plan for an event in Tree mode, and one that changes no pair and no mode, keep the forest.
-use Rattle.std.proofs.Common.{◌≡◌, ℕ, ◌+◌, List, [], Bool, true, false, ◌&&◌, nat_lt, if◌then◌else◌, refl, sym, ap, ◌∙◌, subst}
+use Rattle.std.proofs.Common.{◌≡◌, ℕ, ◌+◌, ◌<◌, List, [], Bool, true, false, ◌&&◌, nat_lt, if◌then◌else◌, refl, sym, ap, ◌∙◌, subst}
 use Rattle.std.proofs.lemmas.List.{set-get_or}
 use Rattle.lt_seq.specs.declared.event.Pair.{Pair}
 use Rattle.lt_seq.specs.declared.event.Mode.{Mode}
@@ -47,7 +47,7 @@ module _ {trees rows : ℕ} {c d : Nodes} {mode mode' : ℕ → Mode} {state : L
     {top : Top} {cut new : Cut} {taken given : List ℕ} (part : IsPart trees rows c mode state f (tree_of deed) top cut)
     (lays : Lays trees (tree_of deed) top c d cut new taken given) (closed : IsClosedFor (range_of deed) top c cut)
     (shows : ShowsDeed setting txn deed c d cut new (mode (tree_of deed)) (mode' (tree_of deed)))
-    (other_modes : KeepsModes (tree_of deed) mode mode') where
+    (other_modes : KeepsModes trees (tree_of deed) mode mode') where
   abbrev t : ℕ
   t = tree_of deed
 
@@ -98,17 +98,17 @@ module _ {trees rows : ℕ} {c d : Nodes} {mode mode' : ℕ → Mode} {state : L
 
 -- a change of layout alone
 
-module _ {trees rows t : ℕ} {c d : Nodes} {mode : ℕ → Mode} {state : List TreeState} {f : Forest} {top : Top} {cut new : Cut}
+module _ {trees rows t : ℕ} {c d : Nodes} {mode mode' : ℕ → Mode} {state : List TreeState} {f : Forest} {top : Top} {cut new : Cut}
     (part : IsPart trees rows c mode state f t top cut) (lays : Lays trees t top c d cut new [] [])
-    (same : pairs_in d (bare new) ≡ pairs_in c (bare cut)) where
-  pub layout_relaid : Relaid trees rows c d mode mode state state f t top cut new
-  layout_relaid = subst (λ (s : List TreeState). Relaid trees rows c d mode mode state s f t top cut new) (set-get_or state t fresh)
+    (same : pairs_in d (bare new) ≡ pairs_in c (bare cut)) (modes : (s : ℕ) → s < trees → mode s ≡ mode' s) where
+  pub layout_relaid : Relaid trees rows c d mode mode' state state f t top cut new
+  layout_relaid = subst (λ (s : List TreeState). Relaid trees rows c d mode mode' state s f t top cut new) (set-get_or state t fresh)
       (relaid part lays (record {
         modes = record {
-          is_tree = part.tree_mode;
-          mode_is = part.forest.modes t part.tree;
-          full = λ e. e;
-          others = λ s ne. refl;
+          is_tree = subst IsTree (modes t part.tree) part.tree_mode;
+          mode_is = sym (modes t part.tree) ∙ part.forest.modes t part.tree;
+          full = λ e. sym (modes t part.tree) ∙ e;
+          others = λ s lt ne. modes s lt;
         };
         covered = same_pairs (λ p a. a) (λ p. refl);
         shown = subst (Change NoPair drops_none (pairs_in c (bare cut))) (sym same) (no_change (pairs_in c (bare cut)) (part_lawful part));

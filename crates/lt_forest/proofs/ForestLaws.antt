@@ -143,7 +143,8 @@ module _ {trees rows t : ℕ} {c d : Nodes} {mode : ℕ → Mode} {state : List 
       let lt = moves.tree in
       changes_else c d t trees q moved moves.only (λ e. omega arith) (λ e. omega arith) (omega arith)
 
-  anchors : (s : ℕ) → s < trees → s ≢ t → c s ≡ d s
+  -- and so does another tree's anchor
+  pub anchors : (s : ℕ) → s < trees → s ≢ t → c s ≡ d s
   anchors s lt' ne =
       let h = total_has (stands_in s) trees t moves.tree in
       let z = moves.stand s in
@@ -156,7 +157,7 @@ module _ {trees rows t : ℕ} {c d : Nodes} {mode : ℕ → Mode} {state : List 
 pub record Regrows (trees t : ℕ) (c d : Nodes) (mode mode' : ℕ → Mode) (f : Forest) (after : TreeState) (moved : List ℕ)
     (growth : Growth) (pool : List ℕ) : Type 0 where
   pub moves : Moves trees t c d f moved
-  pub other_modes : KeepsModes t mode mode'
+  pub other_modes : KeepsModes trees t mode mode'
   pub mode_is : mode' t ≡ after.mode
   pub grown : Represents d (d t).left growth after.pairs (mode' t)
   pub vacant : IsChain d (d trees).left pool
@@ -212,7 +213,7 @@ module _ {trees rows t : ℕ} {c d : Nodes} {mode mode' : ℕ → Mode} {state :
       (λ ne. subst (λ (x : Growth). Represents d (d s).left x (tree_at (set state t after) s).pairs (mode' s))
       (sym (put_else f.tree t s growth ne))
       (subst (λ (x : TreeState). Represents d (d s).left (f.tree s) x.pairs (mode' s)) (sym (now_else s ne))
-      (subst (λ (m : Mode). Represents d (d s).left (f.tree s) (tree_at state s).pairs m) (grows.other_modes s ne)
+      (subst (λ (m : Mode). Represents d (d s).left (f.tree s) (tree_at state s).pairs m) (grows.other_modes s lt' ne)
       (subst (λ (n : Node). Represents d n.left (f.tree s) (tree_at state s).pairs (mode s)) (anchors forest grows.moves s lt' ne)
       (represents_stay c d (c s).left (f.tree s) (tree_at state s).pairs (mode s)
       (elsewhere forest grows.moves s lt' ne) (forest.grown s lt'))))))
@@ -221,7 +222,7 @@ module _ {trees rows t : ℕ} {c d : Nodes} {mode mode' : ℕ → Mode} {state :
   new_modes s lt' = dite (ℕ_discrete s t)
       (λ e. subst (λ (n : ℕ). mode' n ≡ (tree_at (set state t after) n).mode) (sym e)
       (grows.mode_is ∙ ap (λ (x : TreeState). x.mode) (sym now_here)))
-      (λ ne. sym (grows.other_modes s ne) ∙ (forest.modes s lt' ∙ ap (λ (x : TreeState). x.mode) (sym (now_else s ne))))
+      (λ ne. sym (grows.other_modes s lt' ne) ∙ (forest.modes s lt' ∙ ap (λ (x : TreeState). x.mode) (sym (now_else s ne))))
 
   pub regrown_forest : IsForest trees rows d mode' (set state t after) (regrown f t growth pool)
   regrown_forest = record {
@@ -252,5 +253,5 @@ module _ {trees rows t : ℕ} {c d : Nodes} {mode mode' : ℕ → Mode} {state :
         tree = placed.tree;
         gap = subst (λ (x : Growth). GapIn d x q g) (sym (put_else f.tree t s growth ne))
             (gap_in_stays c d (f.tree s) q g (elsewhere forest grows.moves s placed.tree ne) placed.gap);
-        full = λ full. sym (grows.other_modes s ne) ∙ placed.full full;
+        full = λ full. sym (grows.other_modes s placed.tree ne) ∙ placed.full full;
       })

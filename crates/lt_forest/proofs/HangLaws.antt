@@ -16,7 +16,7 @@ use Rattle.lt_forest.specs.Cuts.{Cut, end, held, fill, bare, IsRow, links, HasCu
 use Rattle.lt_forest.proofs.BoundLaws.{lt_le, le_lt}
 use Rattle.lt_forest.proofs.PairLists.{map_app, has_left, has_right, has_either, clear_by, filter_app, filter_clear, lawful_left, lawful_right, no_two}
 use Rattle.lt_forest.proofs.TreeLaws.{Agree, ordered_stays, gap_stays}
-use Rattle.lt_forest.proofs.TreeOrders.{pairs_in-node, has_node, node_has, all_inside}
+use Rattle.lt_forest.proofs.LawfulTrees.{pairs_in-node, has_node, node_has, all_inside}
 use Rattle.lt_forest.proofs.SameRows.{times-++, one_equal, AgreeOn, on_left, on_right, on_tree}
 use Rattle.lt_forest.proofs.EndLaws.{all_app, all_left, all_right, aside_at, links_of, links_of-ends}
 

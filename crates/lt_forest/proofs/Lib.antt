@@ -1,35 +1,46 @@
+-- keys and lists
 pub mod BoundLaws
 pub mod PairLists
-pub mod TreeLaws
-pub mod TreeOrders
-pub mod SameRows
-pub mod EndLaws
-pub mod HangLaws
 pub mod Changes
 pub mod PairChanges
 pub mod DeedChanges
-pub mod TreeParts
+pub mod MiddleSteps
+-- one tree
+pub mod TreeLaws
+pub mod LawfulTrees
+pub mod SameRows
+-- cuts and hangs
+pub mod EndLaws
+pub mod HangLaws
 pub mod Growing
-pub mod Chains
-pub mod ForestLaws
-pub mod PartLaws
-pub mod PlanLaws
-pub mod EventLaws
-pub mod BufferLaws
-pub mod GapLaws
-pub mod ViewLaws
-pub mod ViewBuffers
-pub mod LinkLaws
-pub mod PathLaws
-pub mod StateLaws
-pub mod Openings
-pub mod VisitLaws
-pub mod OrderLaws
+pub mod TreeParts
+pub mod RowsAndHangs
 pub mod RunLaws
 pub mod WidenLaws
 pub mod LayoutLaws
 pub mod RotationLaws
-pub mod MiddleSteps
-pub mod ViewLessons
+pub mod PartGaps
+-- forests
+pub mod Chains
+pub mod ForestLaws
+pub mod PartLaws
+pub mod FurtherRows
+pub mod GapLaws
+pub mod NamedOnce
+pub mod NoWayBack
+pub mod StateLaws
+pub mod Openings
+pub mod VisitLaws
+-- deeds
+pub mod PlanLaws
+pub mod EventLaws
+pub mod BufferLaws
+-- views
+pub mod PlansInView
+pub mod BuffersInView
+pub mod ReadOffRows
+-- each public law by its name
+pub mod PublicLaws
+-- worked
 pub mod WorkedTrees
 pub mod WorkedBuffer

@@ -19,7 +19,7 @@ use Rattle.lt_forest.proofs.TreeLaws.{last_link}
 use Rattle.lt_forest.proofs.Changes.{Change, IsLocal}
 use Rattle.lt_forest.proofs.PairLists.{not_over}
 use Rattle.lt_forest.proofs.SameRows.{times-++, one_here, one_equal, AgreeOn, on_path}
-use Rattle.lt_forest.proofs.TreeOrders.{lawful_ordered}
+use Rattle.lt_forest.proofs.LawfulTrees.{lawful_ordered}
 use Rattle.lt_forest.proofs.EndLaws.{same_links}
 use Rattle.lt_forest.proofs.HangLaws.{hung, hung_pairs, cut_gap}
 use Rattle.lt_forest.proofs.Growing.{grow, height, AllGrow, links_grow, all_grow, fill_leads}
@@ -42,7 +42,7 @@ module _ {trees rows t : ℕ} {c d : Nodes} {mode : ℕ → Mode} {state : List 
   abbrev moved : List ℕ
   moved = in_order (bare cut) ++ taken
 
-  moves : Moves trees t c d f (in_order (bare cut) ++ taken)
+  pub moves : Moves trees t c d f (in_order (bare cut) ++ taken)
   moves = record {
     tree = part.tree;
     only = lays.others;
@@ -134,16 +134,16 @@ module _ {trees rows t h : ℕ} {g : Gap} {c d : Nodes} {mode : ℕ → Mode} {s
       ]
 
 -- the mode that the plan makes of the tree, where the tree after it is this
-pub record Remode (mode mode' : ℕ → Mode) (t : ℕ) (after : TreeState) : Type 0 where
+pub record Remode (trees : ℕ) (mode mode' : ℕ → Mode) (t : ℕ) (after : TreeState) : Type 0 where
   pub is_tree : IsTree (mode' t)
   pub mode_is : mode' t ≡ after.mode
   pub full : mode t ≡ TreeMode 100 → mode' t ≡ TreeMode 100
-  pub others : KeepsModes t mode mode'
+  pub others : KeepsModes trees t mode mode'
 
 module _ {trees rows t : ℕ} {c d : Nodes} {mode mode' : ℕ → Mode} {state : List TreeState} {f : Forest} {top : Top}
     {cut new : Cut}
     {taken given : List ℕ} {after : TreeState} (part : IsPart trees rows c mode state f t top cut)
-    (lays : Lays trees t top c d cut new taken given) (modes : Remode mode mode' t after)
+    (lays : Lays trees t top c d cut new taken given) (modes : Remode trees mode mode' t after)
     (new_shown : IsOrdered d (bare new) (lower c (at part).path None) (upper c (at part).path None))
     (new_pairs : pairs_in d (plug (at part).path (fill (hanging part) new)) ≡ after.pairs) where
   laid : PartLaid c d (hanging part) (at part).path cut new
@@ -225,9 +225,9 @@ pub data IsCovered (top : Top) (c : Nodes) (cut : Cut) (added : Pair → Type 0)
       → IsCovered top c cut added dropped
 
 -- the pairs and the mode that the plan makes of the tree, and how it changes the pairs
-pub record Remakes (c d : Nodes) (mode mode' : ℕ → Mode) (t : ℕ) (old : List Pair) (after : TreeState) (top : Top) (cut new : Cut)
+pub record Remakes (trees : ℕ) (c d : Nodes) (mode mode' : ℕ → Mode) (t : ℕ) (old : List Pair) (after : TreeState) (top : Top) (cut new : Cut)
     (added : Pair → Type 0) (dropped : Pair → Bool) : Type 0 where
-  pub modes : Remode mode mode' t after
+  pub modes : Remode trees mode mode' t after
   pub covered : IsCovered top c cut added dropped
   pub shown : Change added dropped (pairs_in c (bare cut)) (pairs_in d (bare new))
   pub whole : Change added dropped old after.pairs
@@ -236,7 +236,7 @@ module _ {trees rows t : ℕ} {c d : Nodes} {mode mode' : ℕ → Mode} {state :
     {cut new : Cut}
     {taken given : List ℕ} {after : TreeState} {added : Pair → Type 0} {dropped : Pair → Bool}
     (part : IsPart trees rows c mode state f t top cut) (lays : Lays trees t top c d cut new taken given)
-    (remakes : Remakes c d mode mode' t (tree_at state t).pairs after top cut new added dropped) where
+    (remakes : Remakes trees c d mode mode' t (tree_at state t).pairs after top cut new added dropped) where
   fits : IsCovered top c cut added dropped → (p : Pair) → added p
       → IsInside (lower c (at part).path None) (upper c (at part).path None) p.range
   fits (same_pairs none_added none_dropped) p k = absurd (none_added p k)
@@ -306,6 +306,6 @@ module _ {trees rows t : ℕ} {c d : Nodes} {mode : ℕ → Mode} {state : List 
           is_tree = part.tree_mode;
           mode_is = refl;
           full = λ e. e;
-          others = λ s ne. refl;
+          others = λ s lt ne. refl;
         }) fits_in refl;
       }

@@ -10,7 +10,7 @@ use Rattle.lt_forest.specs.Bounds.{Bound, IsAbove, IsBelow, NoGreater, NoLess}
 use Rattle.lt_forest.specs.Cuts.{End, Looser, EndsBefore, BeginsBehind, AllAside}
 use Rattle.lt_forest.specs.Items.{Item, row, hang, rows_only, next_row, last_row, first_end, last_end, between, sift, Ascends, MayMerge}
 use Rattle.lt_forest.proofs.BoundLaws.{lt_is, not_both, above_is, greater_same, less_same, greater_trans, less_trans}
-use Rattle.lt_forest.proofs.OrderLaws.{EndsHanging, BeginsHanging, between-++, next_row-rows, last_row-rows, replaced_looser}
+use Rattle.lt_forest.proofs.RowsAndHangs.{EndsHanging, BeginsHanging, between-++, next_row-rows, last_row-rows, replaced_looser}
 
 -- rows left out
 

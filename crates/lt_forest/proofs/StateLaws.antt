@@ -16,7 +16,7 @@ use Rattle.lt_forest.specs.Forest.{Forest, Growth, search_tree, chain, rows_at, 
 use Rattle.lt_forest.specs.Plans.{from_anchor, IsPart, IsClosedFor}
 use Rattle.lt_forest.proofs.BoundLaws.{over_whole}
 use Rattle.lt_forest.proofs.PairLists.{one_list}
-use Rattle.lt_forest.proofs.TreeOrders.{lawful_ordered}
+use Rattle.lt_forest.proofs.LawfulTrees.{lawful_ordered}
 use Rattle.lt_forest.proofs.Chains.{total_same, chain_one}
 use Rattle.lt_forest.proofs.ForestLaws.{as_tree, as_chain}
 use Rattle.lt_forest.proofs.PartLaws.{map_long, part_lawful, part_has, part_has_all}

@@ -14,7 +14,7 @@ use Rattle.lt_forest.specs.Cuts.{Cut, fill, bare, IsRow, links, ends, AllEnds, L
 use Rattle.lt_forest.proofs.Changes.{Change}
 use Rattle.lt_forest.proofs.PairLists.{map_app, has_left, has_right, has_either, clear_has, filter_app, filter_clear, has_filter, filter_has, one_list, lawful_left, lawful_right, no_two}
 use Rattle.lt_forest.proofs.TreeLaws.{AgreePath, inner_ordered, plug_ordered, plug_gap, path_gap, in_order-plug}
-use Rattle.lt_forest.proofs.TreeOrders.{all_inside, ordered_lawful, lawful_ordered, beside_clear}
+use Rattle.lt_forest.proofs.LawfulTrees.{all_inside, ordered_lawful, lawful_ordered, beside_clear}
 use Rattle.lt_forest.proofs.SameRows.{times-++, AgreeOn, on_path, on_pairs}
 use Rattle.lt_forest.proofs.EndLaws.{looser_at, same_links}
 use Rattle.lt_forest.proofs.HangLaws.{hung, hung_pairs, AgreeEnds, times-fill, length-fill, has_fill, fill_has, not_hung, ends_ordered, bare_ordered, fill_ordered, agree_ends, looser_ordered, out_of, into, looser_gap, hung_clear, filter-fill}

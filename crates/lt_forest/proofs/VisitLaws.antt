@@ -16,7 +16,7 @@ use Rattle.lt_forest.specs.Visits.{IsVisited}
 use Rattle.lt_forest.specs.Forest.{Forest}
 use Rattle.lt_forest.specs.Plans.{Top, IsInGap, IsPart, IsClosedFor}
 use Rattle.lt_forest.proofs.BoundLaws.{lt_is}
-use Rattle.lt_forest.proofs.TreeOrders.{lawful_ordered}
+use Rattle.lt_forest.proofs.LawfulTrees.{lawful_ordered}
 use Rattle.lt_forest.proofs.PartLaws.{part_lawful, part_has_all}
 
 pub aside_app : (range : Interval) (es fs : List End) → AllAside range es → AllAside range fs → AllAside range (es ++ fs)

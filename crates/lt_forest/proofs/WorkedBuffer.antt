@@ -37,9 +37,9 @@ opening = record { room = lit< tt; empty = first; next = on; last = refl }
 abbrev OthersTree : (ℕ → Mode) → Type 0
 OthersTree mode = (s : ℕ) → mode (suc s) ≡ TreeMode 100
 
-modes_keep : (a b : ℕ → Mode) → OthersTree a → OthersTree b → KeepsModes 0 a b
-modes_keep a b x y zero ne = absurd (ne refl)
-modes_keep a b x y (suc s) ne = x s ∙ sym (y s)
+modes_keep : (a b : ℕ → Mode) → OthersTree a → OthersTree b → KeepsModes 1 0 a b
+modes_keep a b x y zero lt ne = absurd (ne refl)
+modes_keep a b x y (suc s) lt ne = x s ∙ sym (y s)
 
 pub worked_buffer : WorkedBuffer
 unfolding key_le

@@ -23,7 +23,7 @@ use Rattle.lt_forest.specs.Plans.{Top, from_anchor, from_row, IsInGap, IsPart, I
 use Rattle.lt_forest.specs.WorkedTrees.{from_to, at, holds, leads, one_tree, four, four_tree, four_forest, tree_modes, four_state, four_events, with_images, WorkedStart, WorkedInsertion, WorkedMerge, WorkedRemoval, WorkedJoin, WorkedQuestion, WorkedRotation, WorkedReplacement}
 use Rattle.lt_forest.proofs.VisitLaws.{visited_closed}
 use Rattle.lt_forest.proofs.WidenLaws.{widens}
-use Rattle.lt_forest.proofs.OrderLaws.{order_ends, order_rows, order_pairs}
+use Rattle.lt_forest.proofs.RowsAndHangs.{order_ends, order_rows, order_pairs}
 use Rattle.lt_forest.proofs.PlanLaws.{replaced}
 use Rattle.lt_forest.proofs.EventLaws.{event_relaid, deed_replies, layout_relaid}
 
@@ -155,8 +155,8 @@ insertion =
       question = refl;
     } in
     record {
-      relaid = event_relaid six_part lays closed shows (λ s ne. refl);
-      replies = deed_replies six_part lays closed shows (λ s ne. refl);
+      relaid = event_relaid six_part lays closed shows (λ s lt ne. refl);
+      replies = deed_replies six_part lays closed shows (λ s lt ne. refl);
     }
 
 pub merge : WorkedMerge
@@ -187,8 +187,8 @@ merge =
       question = refl;
     } in
     record {
-      relaid = event_relaid part lays closed shows (λ s ne. refl);
-      replies = deed_replies part lays closed shows (λ s ne. refl);
+      relaid = event_relaid part lays closed shows (λ s lt ne. refl);
+      replies = deed_replies part lays closed shows (λ s lt ne. refl);
     }
 
 pub removal : WorkedRemoval
@@ -220,8 +220,8 @@ removal =
     record {
       widened = widens four 5 narrow 6 (3 ∷ []) [] (refl, refl, refl) refl;
       works = record {
-        relaid = event_relaid part lays closed shows (λ s ne. refl);
-        replies = deed_replies part lays closed shows (λ s ne. refl);
+        relaid = event_relaid part lays closed shows (λ s lt ne. refl);
+        replies = deed_replies part lays closed shows (λ s lt ne. refl);
       };
     }
 
@@ -253,8 +253,8 @@ join =
       question = tt;
     } in
     record {
-      relaid = event_relaid part lays closed shows (λ s ne. refl);
-      replies = deed_replies part lays closed shows (λ s ne. refl);
+      relaid = event_relaid part lays closed shows (λ s lt ne. refl);
+      replies = deed_replies part lays closed shows (λ s lt ne. refl);
     }
 
 pub question : WorkedQuestion
@@ -282,8 +282,8 @@ question =
       question = refl;
     } in
     record {
-      relaid = event_relaid part lays closed shows (λ s ne. refl);
-      replies = deed_replies part lays closed shows (λ s ne. refl);
+      relaid = event_relaid part lays closed shows (λ s lt ne. refl);
+      replies = deed_replies part lays closed shows (λ s lt ne. refl);
     }
 
 pub rotation : WorkedRotation
@@ -300,7 +300,7 @@ rotation =
       link = tt;
       others = λ r none. images_only four images r (omega arith);
     } in
-    layout_relaid (four_part cut (refl, (refl, refl, refl), refl)) lays (order_pairs four (with_images four images) cut new refl)
+    layout_relaid (four_part cut (refl, (refl, refl, refl), refl)) lays (order_pairs four (with_images four images) cut new refl) (λ s lt. refl)
 
 pub replacement : WorkedReplacement
 unfolding key_le

@@ -88,9 +88,9 @@ pub record IsPlaced (trees : ℕ) (c : Nodes) (mode : ℕ → Mode) (f : Forest)
 abbrev pub ChangesOnly : List ℕ → Nodes → Nodes → Type 0
 ChangesOnly rows c d = (r : ℕ) → times r rows ≡ 0 → c r ≡ d r
 
--- only this tree's mode may be another
-abbrev pub KeepsModes : ℕ → (ℕ → Mode) → (ℕ → Mode) → Type 0
-KeepsModes t mode mode' = (s : ℕ) → s ≢ t → mode s ≡ mode' s
+-- of the trees' modes only this one's may be another
+abbrev pub KeepsModes : ℕ → ℕ → (ℕ → Mode) → (ℕ → Mode) → Type 0
+KeepsModes trees t mode mode' = (s : ℕ) → s < trees → s ≢ t → mode s ≡ mode' s
 
 abbrev pub NoRow : ℕ → Type 0
 NoRow r = ⊥

@@ -33,7 +33,7 @@ BufferBegins =
     (trees rows : ℕ) (c d : Nodes) (mode mode' : ℕ → Mode) (state : List TreeState) (f : Forest) (setting : Setting)
     (t q txn : ℕ) (range : Interval)
     → IsForest trees rows c mode state f → t < trees → Begins setting trees t q txn range c d (mode t) (mode' t)
-    → ChangesOnly (t ∷ trees ∷ q ∷ []) c d → KeepsModes t mode mode'
+    → ChangesOnly (t ∷ trees ∷ q ∷ []) c d → KeepsModes trees t mode mode'
     → Becomes trees rows c d mode mode' state (after_deed setting txn (Ask t range Buffered) state) f NoRow 0 1
     × IsReplied setting txn (Ask t range Buffered) state
 
@@ -43,7 +43,7 @@ BufferGrows =
     (trees rows : ℕ) (c d : Nodes) (mode mode' : ℕ → Mode) (state : List TreeState) (f : Forest) (setting : Setting)
     (t q txn count : ℕ) (range : Interval)
     → IsForest trees rows c mode state f → t < trees → Appends setting trees t q txn count range c d (mode t) (mode' t)
-    → ChangesOnly (t ∷ trees ∷ q ∷ []) c d → KeepsModes t mode mode'
+    → ChangesOnly (t ∷ trees ∷ q ∷ []) c d → KeepsModes trees t mode mode'
     → Becomes trees rows c d mode mode' state (after_deed setting txn (Ask t range Buffered) state) f NoRow 0 1
     × IsReplied setting txn (Ask t range Buffered) state
 
@@ -55,7 +55,7 @@ BufferEnds =
     → IsForest trees rows c mode state f → tree_of deed < trees
     → Ends setting txn owner count deed (tree_of deed) c d (mode (tree_of deed)) (mode' (tree_of deed)) olds new taken given
     → MovesPool trees c d taken given → ChangesOnly (tree_of deed ∷ trees ∷ olds ++ taken) c d
-    → KeepsModes (tree_of deed) mode mode'
+    → KeepsModes trees (tree_of deed) mode mode'
     → Becomes trees rows c d mode mode' state (after_deed setting txn deed state) f NoRow (length olds) (length (in_order (bare new)))
     × IsReplied setting txn deed state
 
@@ -65,7 +65,7 @@ BufferIsDropped =
     (trees rows : ℕ) (c d : Nodes) (mode mode' : ℕ → Mode) (state : List TreeState) (f : Forest) (setting : Setting)
     (t owner count : ℕ) (range : Interval) (first : Bool) (front : List ℕ) (last : ℕ)
     → IsForest trees rows c mode state f → t < trees → Drops trees t owner count c d (mode t) (mode' t) front last
-    → ChangesOnly (t ∷ trees ∷ last ∷ []) c d → KeepsModes t mode mode' → is_whole range ≡ true
+    → ChangesOnly (t ∷ trees ∷ last ∷ []) c d → KeepsModes trees t mode mode' → is_whole range ≡ true
     → Becomes trees rows c d mode mode' state (after_deed setting owner (whole_free t range first owner c (front ++ last ∷ [])) state) f
     NoRow (length (front ++ last ∷ [])) 0
     × IsReplied setting owner (whole_free t range first owner c (front ++ last ∷ [])) state

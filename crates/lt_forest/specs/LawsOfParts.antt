@@ -97,17 +97,17 @@ PartIsLaidForDeed =
     (deed : Deed) (top : Top) (cut new : Cut) (taken given : List ℕ)
     → IsPart trees rows c mode state f (tree_of deed) top cut → Lays trees (tree_of deed) top c d cut new taken given
     → IsClosedFor (range_of deed) top c cut
-    → ShowsDeed setting txn deed c d cut new (mode (tree_of deed)) (mode' (tree_of deed)) → KeepsModes (tree_of deed) mode mode'
+    → ShowsDeed setting txn deed c d cut new (mode (tree_of deed)) (mode' (tree_of deed)) → KeepsModes trees (tree_of deed) mode mode'
     → Relaid trees rows c d mode mode' state (after_deed setting txn deed state) f (tree_of deed) top cut new
     × IsReplied setting txn deed state
 
 -- a part may be laid anew with the same pairs, and the table stays
 abbrev pub PartIsLaidAgain : Type 0
 PartIsLaidAgain =
-    (trees rows : ℕ) (c d : Nodes) (mode : ℕ → Mode) (state : List TreeState) (f : Forest) (t : ℕ) (top : Top) (cut new : Cut)
+    (trees rows : ℕ) (c d : Nodes) (mode mode' : ℕ → Mode) (state : List TreeState) (f : Forest) (t : ℕ) (top : Top) (cut new : Cut)
     → IsPart trees rows c mode state f t top cut → Lays trees t top c d cut new [] []
-    → pairs_in d (bare new) ≡ pairs_in c (bare cut)
-    → Relaid trees rows c d mode mode state state f t top cut new
+    → pairs_in d (bare new) ≡ pairs_in c (bare cut) → ((s : ℕ) → s < trees → mode s ≡ mode' s)
+    → Relaid trees rows c d mode mode' state state f t top cut new
 
 -- The row from which a part hangs does not go to the pool.
 abbrev pub TopRowStays : Type 0

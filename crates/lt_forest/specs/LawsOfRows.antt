@@ -7,7 +7,7 @@ use Rattle.lt_forest.specs.Counts.{times}
 use Rattle.lt_forest.specs.Bounds.{Gap}
 use Rattle.lt_forest.specs.Trees.{Nodes}
 use Rattle.lt_forest.specs.Cuts.{Cut, IsRow}
-use Rattle.lt_forest.specs.Forest.{Forest, chain, IsRun, IsForest, IsPlaced}
+use Rattle.lt_forest.specs.Forest.{Forest, chain, rows_at, IsRun, IsForest, IsPlaced}
 use Rattle.lt_forest.specs.Plans.{Top, IsPart}
 use Rattle.lt_forest.specs.Links.{Slot, left_of, right_of, link_in, IsLinkOf, IsLink, Leads}
 use Rattle.lt_forest.specs.Openings.{IsOpening, opening_forest}
@@ -23,6 +23,40 @@ abbrev pub VacantIsThere : Type 0
 VacantIsThere =
     (trees rows : ℕ) (c : Nodes) (mode : ℕ → Mode) (state : List TreeState) (f : Forest)
     → IsForest trees rows c mode state f → used state + trees + 1 < rows → (q : ℕ) × ((c trees).left ≡ q + 1)
+
+-- The rows of a tree, of the pool, of a run from an anchor in Buffer mode or from the pool's, and of a part are further rows.
+abbrev pub TreeRowsAreFurther : Type 0
+TreeRowsAreFurther =
+    (trees rows : ℕ) (c : Nodes) (mode : ℕ → Mode) (state : List TreeState) (f : Forest) (t q : ℕ)
+    → IsForest trees rows c mode state f → t < trees → 0 < times q (rows_at (f.tree t)) → (trees < q) × (q < rows)
+
+abbrev pub PoolRowsAreFurther : Type 0
+PoolRowsAreFurther =
+    (trees rows : ℕ) (c : Nodes) (mode : ℕ → Mode) (state : List TreeState) (f : Forest) (q : ℕ)
+    → IsForest trees rows c mode state f → 0 < times q f.pool → (trees < q) × (q < rows)
+
+abbrev pub RunRowsAreFurther : Type 0
+RunRowsAreFurther =
+    (trees rows : ℕ) (c : Nodes) (mode : ℕ → Mode) (state : List TreeState) (f : Forest) (t owner count last q : ℕ) (run : List ℕ)
+    → IsForest trees rows c mode state f → t < trees → mode t ≡ Buffer owner count → IsRun c (c t).left run last
+    → 0 < times q run → (trees < q) × (q < rows)
+
+abbrev pub TakenRowsAreFurther : Type 0
+TakenRowsAreFurther =
+    (trees rows : ℕ) (c : Nodes) (mode : ℕ → Mode) (state : List TreeState) (f : Forest) (last q : ℕ) (run : List ℕ)
+    → IsForest trees rows c mode state f → IsRun c (c trees).left run last → 0 < times q run → (trees < q) × (q < rows)
+
+abbrev pub PartRowsAreFurther : Type 0
+PartRowsAreFurther =
+    (trees rows : ℕ) (c : Nodes) (mode : ℕ → Mode) (state : List TreeState) (f : Forest) (t : ℕ) (top : Top) (cut : Cut) (q : ℕ)
+    → IsPart trees rows c mode state f t top cut → IsRow q cut → (trees < q) × (q < rows)
+
+-- a forest reads its rows and its trees' modes alone
+abbrev pub ForestReadsItsRows : Type 0
+ForestReadsItsRows =
+    (trees rows : ℕ) (c d : Nodes) (mode mode' : ℕ → Mode) (state : List TreeState) (f : Forest)
+    → IsForest trees rows c mode state f → ((r : ℕ) → r < rows → c r ≡ d r) → ((t : ℕ) → t < trees → mode t ≡ mode' t)
+    → IsForest trees rows d mode' state f
 
 -- at the start no row is in use
 abbrev pub OpeningIsForest : Type 0

@@ -11,15 +11,16 @@ use Rattle.lt_seq.specs.declared.event.Deed.TheVariants.{Ask}
 use Rattle.lt_seq.specs.Pairs.{IsLawful}
 use Rattle.lt_seq.specs.Sound.{AllSound}
 use Rattle.lt_seq.specs.Table.{Setting, TreeState, tree_at, tree_of, is_whole, used}
+use Rattle.lt_forest.specs.Counts.{times}
 use Rattle.lt_forest.specs.Bounds.{Gap}
 use Rattle.lt_forest.specs.Pairs.{Has}
 use Rattle.lt_forest.specs.Trees.{Nodes, left_end, right_end, in_order, pairs_in}
-use Rattle.lt_forest.specs.Cuts.{Cut, bare}
-use Rattle.lt_forest.specs.Forest.{NoRow, Forest, IsTree, IsChain, AllOf, folded, IsForest, IsPlaced, KeepsModes, Becomes}
+use Rattle.lt_forest.specs.Cuts.{Cut, bare, IsRow}
+use Rattle.lt_forest.specs.Forest.{NoRow, Forest, IsTree, IsChain, IsRun, AllOf, folded, IsForest, IsPlaced, Becomes}
 use Rattle.lt_forest.specs.Plans.{after_deed, IsReplied, Top, from_anchor, IsInGap, IsSeen, IsClosedFor, range_of, Relaid, ReplacedPart}
 use Rattle.lt_forest.specs.Buffers.{whole_free, Begins, Appends}
 use Rattle.lt_forest.specs.Links.{Slot, row_with, link_in, IsLinkOf, IsLink, Leads}
-use Rattle.lt_forest.specs.Views.{IsIn, Agrees, IsView, AllHeld, HoldsPart, PlanLays, PlanShows, PlansThese, PlanEnds, PlanDrops}
+use Rattle.lt_forest.specs.Views.{IsIn, Agrees, IsView, AllHeld, HoldsPart, PlansModes, SameMode, PlanLays, PlanShows, PlansThese, PlanEnds, PlanDrops}
 
 -- The gap that a pass reads off a held row, or off its tree's anchor, is a true one.
 abbrev pub TopIsRead : Type 0
@@ -77,6 +78,28 @@ VacantIsRead =
     → IsForest trees rows c mode state f → Agrees (IsIn has) v c → IsIn has trees → used state + trees + 1 < rows
     → (q : ℕ) × ((v trees).left ≡ q + 1)
 
+-- The rows of a run that a pass holds, from an anchor in Buffer mode or from the pool's, and those of a part are further rows.
+abbrev pub ReadRunIsFurther : Type 0
+ReadRunIsFurther =
+    (has : ℕ → Bool) (v : Nodes) (trees rows : ℕ) (c : Nodes) (mode : ℕ → Mode) (state : List TreeState) (f : Forest)
+    (t owner count last q : ℕ) (run : List ℕ)
+    → IsForest trees rows c mode state f → Agrees (IsIn has) v c → AllHeld (IsIn has) (t ∷ run) → t < trees
+    → mode t ≡ Buffer owner count → IsRun v (v t).left run last → 0 < times q run → (trees < q) × (q < rows)
+
+abbrev pub ReadPoolIsFurther : Type 0
+ReadPoolIsFurther =
+    (has : ℕ → Bool) (v : Nodes) (trees rows : ℕ) (c : Nodes) (mode : ℕ → Mode) (state : List TreeState) (f : Forest)
+    (last q : ℕ) (run : List ℕ)
+    → IsForest trees rows c mode state f → Agrees (IsIn has) v c → AllHeld (IsIn has) (trees ∷ run)
+    → IsRun v (v trees).left run last → 0 < times q run → (trees < q) × (q < rows)
+
+abbrev pub HeldPartIsFurther : Type 0
+HeldPartIsFurther =
+    (has : ℕ → Bool) (v : Nodes) (trees rows : ℕ) (c : Nodes) (mode : ℕ → Mode) (state : List TreeState) (f : Forest) (t : ℕ)
+    (top : Top) (cut : Cut) (q : ℕ)
+    → IsForest trees rows c mode state f → AllSound state → t < trees → IsTree (mode t) → IsSeen c (f.tree t) top
+    → Agrees (IsIn has) v c → HoldsPart (IsIn has) t top v cut → IsRow q cut → (trees < q) × (q < rows)
+
 -- A part that a pass holds shows pairs of its tree. Where it is closed for a range, it shows all that overlap.
 abbrev pub HeldPartShowsPairs : Type 0
 HeldPartShowsPairs =
@@ -121,20 +144,21 @@ PlanServesDeed =
     → IsForest trees rows c mode state f → AllSound state → tree_of deed < trees → IsSeen c (f.tree (tree_of deed)) top
     → (score ≡ 100 → mode (tree_of deed) ≡ TreeMode 100) → IsView (IsIn has) planned v v' c d
     → PlanLays (IsIn has) planned trees (tree_of deed) top v v' cut new taken given → IsClosedFor (range_of deed) top v cut
-    → PlanShows setting txn deed top score v v' cut new (mode (tree_of deed)) (mode' (tree_of deed))
-    → KeepsModes (tree_of deed) mode mode'
+    → PlanShows planned setting txn deed top score v v' cut new (mode (tree_of deed)) (mode' (tree_of deed))
+    → PlansModes trees planned mode mode'
     → Relaid trees rows c d mode mode' state (after_deed setting txn deed state) f (tree_of deed) top cut new
     × IsReplied setting txn deed state
 
 -- and so is what it owes for a change of layout
 abbrev pub PlanServesLayout : Type 0
 PlanServesLayout =
-    (has : ℕ → Bool) (planned : List ℕ) (v v' : Nodes) (trees rows : ℕ) (c d : Nodes) (mode : ℕ → Mode)
+    (has : ℕ → Bool) (planned : List ℕ) (v v' : Nodes) (trees rows : ℕ) (c d : Nodes) (mode mode' : ℕ → Mode)
     (state : List TreeState) (f : Forest) (t : ℕ) (top : Top) (cut new : Cut)
     → IsForest trees rows c mode state f → AllSound state → t < trees → IsTree (mode t) → IsSeen c (f.tree t) top
     → IsView (IsIn has) planned v v' c d → PlanLays (IsIn has) planned trees t top v v' cut new [] []
     → pairs_in v' (bare new) ≡ pairs_in v (bare cut)
-    → Relaid trees rows c d mode mode state state f t top cut new
+    → PlansModes trees planned mode mode' → SameMode planned t top (mode t) (mode' t)
+    → Relaid trees rows c d mode mode' state state f t top cut new
 
 -- and for any ranges that ascend and lie in the seen gap
 abbrev pub PlanServesReplacement : Type 0
@@ -153,7 +177,7 @@ PlanBegins =
     (state : List TreeState) (f : Forest) (setting : Setting) (t q txn : ℕ) (range : Interval)
     → IsForest trees rows c mode state f → t < trees → IsView (IsIn has) planned v v' c d
     → PlansThese (IsIn has) planned (t ∷ trees ∷ q ∷ []) → Begins setting trees t q txn range v v' (mode t) (mode' t)
-    → KeepsModes t mode mode'
+    → PlansModes trees planned mode mode'
     → Becomes trees rows c d mode mode' state (after_deed setting txn (Ask t range Buffered) state) f NoRow 0 1
     × IsReplied setting txn (Ask t range Buffered) state
 
@@ -164,7 +188,7 @@ PlanAppends =
     (state : List TreeState) (f : Forest) (setting : Setting) (t q txn count : ℕ) (range : Interval)
     → IsForest trees rows c mode state f → t < trees → IsView (IsIn has) planned v v' c d
     → PlansThese (IsIn has) planned (t ∷ trees ∷ q ∷ []) → Appends setting trees t q txn count range v v' (mode t) (mode' t)
-    → KeepsModes t mode mode'
+    → PlansModes trees planned mode mode'
     → Becomes trees rows c d mode mode' state (after_deed setting txn (Ask t range Buffered) state) f NoRow 0 1
     × IsReplied setting txn (Ask t range Buffered) state
 
@@ -177,7 +201,7 @@ PlanEndsBuffer =
     → IsForest trees rows c mode state f → tree_of deed < trees → IsView (IsIn has) planned v v' c d
     → PlanEnds (IsIn has) planned setting trees txn owner count deed (tree_of deed) v v' (mode (tree_of deed))
     (mode' (tree_of deed)) olds new taken given
-    → KeepsModes (tree_of deed) mode mode'
+    → PlansModes trees planned mode mode'
     → Becomes trees rows c d mode mode' state (after_deed setting txn deed state) f NoRow (length olds) (length (in_order (bare new)))
     × IsReplied setting txn deed state
 
@@ -188,7 +212,7 @@ PlanDropsBuffer =
     (state : List TreeState) (f : Forest) (setting : Setting) (t owner count : ℕ) (range : Interval) (first : Bool)
     (front : List ℕ) (last : ℕ)
     → IsForest trees rows c mode state f → t < trees → IsView (IsIn has) planned v v' c d
-    → PlanDrops (IsIn has) planned trees t owner count v v' (mode t) (mode' t) front last → KeepsModes t mode mode'
+    → PlanDrops (IsIn has) planned trees t owner count v v' (mode t) (mode' t) front last → PlansModes trees planned mode mode'
     → is_whole range ≡ true
     → Becomes trees rows c d mode mode' state (after_deed setting owner (whole_free t range first owner v (front ++ last ∷ [])) state) f
     NoRow (length (front ++ last ∷ [])) 0

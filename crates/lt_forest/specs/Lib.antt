@@ -21,5 +21,6 @@ pub mod LawsOfBuffers
 pub mod LawsOfRows
 pub mod LawsOfOrder
 pub mod LawsOfViews
+pub mod LawsOfPlans
 pub mod WorkedTrees
 pub mod WorkedBuffer

@@ -1,10 +1,10 @@
 -- What a pass knows: the rows that it holds, as v shows them, and a plan, whose images v' shows in their place. For rows
 -- that it doesn't hold both say nothing.
-use Rattle.std.specs.Prelude.{◌≡◌, ℕ, ◌<◌, List, [], ◌∷◌, ◌++◌, None, Bool, IsTrue}
+use Rattle.std.specs.Prelude.{◌≡◌, ◌⊎◌, ℕ, ◌<◌, List, [], ◌∷◌, ◌++◌, None, Bool, IsTrue}
 use Rattle.lt_seq.specs.declared.event.Mode.{Mode}
 use Rattle.lt_seq.specs.declared.event.Mode.TheVariants.{Tree as TreeMode}
 use Rattle.lt_seq.specs.declared.event.Deed.{Deed}
-use Rattle.lt_seq.specs.Table.{Setting}
+use Rattle.lt_seq.specs.Table.{Setting, tree_of}
 use Rattle.lt_forest.specs.Counts.{times}
 use Rattle.lt_forest.specs.Trees.{Nodes, in_order}
 use Rattle.lt_forest.specs.Cuts.{Cut, Shows, bare, ends, Looser}
@@ -39,10 +39,19 @@ abbrev pub TopHeld : (ℕ → Type 0) → ℕ → Top → Type 0
 TopHeld has t from_anchor = has t
 TopHeld has t (from_row h g) = Unit {0}
 
--- and else it isn't in the plan
-abbrev pub TopStays : List ℕ → ℕ → Top → Type 0
-TopStays planned t from_anchor = Unit {0}
-TopStays planned t (from_row h g) = times t planned ≡ 0
+-- and else it isn't in the plan, or it is held and its link stays
+abbrev pub TopStays : (ℕ → Type 0) → List ℕ → ℕ → Top → Nodes → Nodes → Type 0
+TopStays has planned t from_anchor v v' = Unit {0}
+TopStays has planned t (from_row h g) v v' = (times t planned ≡ 0) ⊎ (has t × ((v t).left ≡ (v' t).left))
+
+-- each anchor that isn't in the plan keeps its mode
+abbrev pub PlansModes : ℕ → List ℕ → (ℕ → Mode) → (ℕ → Mode) → Type 0
+PlansModes trees planned mode mode' = (t : ℕ) → t < trees → times t planned ≡ 0 → mode t ≡ mode' t
+
+-- the anchor's mode stays, which is so where it isn't in the plan of a part that hangs from a row
+abbrev pub SameMode : List ℕ → ℕ → Top → Mode → Mode → Type 0
+SameMode planned t from_anchor before after = before ≡ after
+SameMode planned t (from_row h g) before after = (before ≡ after) ⊎ (times t planned ≡ 0)
 
 -- the pass holds the part
 pub record HoldsPart (has : ℕ → Type 0) (t : ℕ) (top : Top) (v : Nodes) (cut : Cut) : Type 0 where
@@ -65,17 +74,18 @@ pub record PlanLays (has : ℕ → Type 0) (planned : List ℕ) (trees t : ℕ) 
   pub loose : Looser (ends v cut None None) (ends v' new None None)
   pub pool : PoolPlan has planned trees v v' taken given
   pub rows : SameRows cut new taken given
-  pub link : TopStays planned t top
+  pub link : TopStays has planned t top v v'
   pub others : PlansOnly (t ∷ trees ∷ in_order (bare cut) ++ taken) planned
 
--- What the plan shows of a deed. With the anchor held the tree's mode is known. From a row on it is Tree mode, and the score
--- any that the one read with the row's gap allows.
-abbrev pub PlanShows : Setting → ℕ → Deed → Top → ℕ → Nodes → Nodes → Cut → Cut → Mode → Mode → Type 0
-PlanShows setting txn deed from_anchor score v v' cut new before after =
+-- What the plan shows of a deed. With the anchor held the tree's mode is known. From a row on the anchor may be held too; where
+-- it isn't in the plan, the tree stays in Tree mode, with any score that the one read with the row's gap allows.
+abbrev pub PlanShows : List ℕ → Setting → ℕ → Deed → Top → ℕ → Nodes → Nodes → Cut → Cut → Mode → Mode → Type 0
+PlanShows planned setting txn deed from_anchor score v v' cut new before after =
     ShowsDeed setting txn deed v v' cut new before after
-PlanShows setting txn deed (from_row h g) score v v' cut new before after =
-    (before ≡ after)
-    × ((s : ℕ) → (score ≡ 100 → s ≡ 100) → ShowsDeed setting txn deed v v' cut new (TreeMode s) (TreeMode s))
+PlanShows planned setting txn deed (from_row h g) score v v' cut new before after =
+    ShowsDeed setting txn deed v v' cut new before after
+    ⊎ ((times (tree_of deed) planned ≡ 0)
+    × ((s : ℕ) → (score ≡ 100 → s ≡ 100) → ShowsDeed setting txn deed v v' cut new (TreeMode s) (TreeMode s)))
 
 -- the pass holds these rows, and its plan has no others
 pub record PlansThese (has : ℕ → Type 0) (planned rows : List ℕ) : Type 0 where

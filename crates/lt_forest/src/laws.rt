@@ -2,9 +2,10 @@
 ghost use Rattle.lt_forest.specs.LawsOfGaps.{RowsHaveOneGap, LeftChildsGap, RightChildsGap, SeenIsWithin, TopIsSeen, LeftIsSeen, RightIsSeen};
 ghost use Rattle.lt_forest.specs.LawsOfParts.{TreesAreOrdered, ReplacedIsInOrder, VisitLeavesOutNone, VisitedIsClosed, ClosedPartHasAll, PartShowsPairs, WholePartShowsAll, EmptyTreeHasNone, PartIsReplaced, PartIsLaidForDeed, PartIsLaidAgain, TopRowStays};
 ghost use Rattle.lt_forest.specs.LawsOfBuffers.{ChainShowsBuffer, FrontIsGranted, BufferBegins, BufferGrows, BufferEnds, BufferIsDropped, OwnerIsAlone};
-ghost use Rattle.lt_forest.specs.LawsOfRows.{RowsAddUp, VacantIsThere, OpeningIsForest, LinksNameFurther, NoneIsNamedTwice, NoneLeadsBack, NoneOfPoolLeadsBack, PoolIsApart, GapRowsAreLinked, PartRowsAreLinked, RunRowsAreLinked, PoolRowsAreLinked};
+ghost use Rattle.lt_forest.specs.LawsOfRows.{RowsAddUp, VacantIsThere, OpeningIsForest, LinksNameFurther, NoneIsNamedTwice, NoneLeadsBack, NoneOfPoolLeadsBack, PoolIsApart, GapRowsAreLinked, PartRowsAreLinked, RunRowsAreLinked, PoolRowsAreLinked, TreeRowsAreFurther, PoolRowsAreFurther, RunRowsAreFurther, TakenRowsAreFurther, PartRowsAreFurther, ForestReadsItsRows};
 ghost use Rattle.lt_forest.specs.LawsOfOrder.{EndsAreHanging, EndsAreBetween, SameOrderKeeps, LeavingOutLoosens, MergingLoosens, PartWidens, PlacedShows, MiddleDecides, OwnBecomeOne};
-ghost use Rattle.lt_forest.specs.LawsOfViews.{TopIsRead, LeftIsRead, RightIsRead, ReadLinksNameFurther, NoneIsReadTwice, NoneIsReadBack, PoolIsReadApart, VacantIsRead, HeldPartShowsPairs, HeldPartHasAll, HeldWholeShowsAll, HeldChainShowsBuffer, PlanServesDeed, PlanServesLayout, PlanServesReplacement, PlanBegins, PlanAppends, PlanEndsBuffer, PlanDropsBuffer};
+ghost use Rattle.lt_forest.specs.LawsOfViews.{TopIsRead, LeftIsRead, RightIsRead, ReadLinksNameFurther, NoneIsReadTwice, NoneIsReadBack, PoolIsReadApart, VacantIsRead, HeldPartShowsPairs, HeldPartHasAll, HeldWholeShowsAll, HeldChainShowsBuffer, PlanServesDeed, PlanServesLayout, PlanServesReplacement, PlanBegins, PlanAppends, PlanEndsBuffer, PlanDropsBuffer, ReadRunIsFurther, ReadPoolIsFurther, HeldPartIsFurther};
+ghost use Rattle.lt_forest.specs.LawsOfPlans.{OtherAnchorsStay, PlanKeepsAnchors, FirstKeepsAnchors, EndKeepsAnchors, DropKeepsAnchors, PartGapIsRead, TopKeepsGap};
 
 /// Every row of a search tree has one gap, and a child's gap is its parent's, cut at the parent's range.
 pub fn gaps_of_rows()
@@ -164,4 +165,42 @@ pub fn plans_for_buffers()
     ensures appends { PlanAppends }
     ensures ends { PlanEndsBuffer }
     ensures dropped { PlanDropsBuffer }
+{}
+
+/// The rows of a tree, of the pool, of a run along a buffer or from the pool's anchor, and of a part are further rows: so they
+/// are no anchors.
+pub fn further_rows()
+    ensures tree { TreeRowsAreFurther }
+    ensures pool { PoolRowsAreFurther }
+    ensures run { RunRowsAreFurther }
+    ensures taken { TakenRowsAreFurther }
+    ensures part { PartRowsAreFurther }
+{}
+
+/// The same of the rows that a pass holds.
+pub fn further_rows_that_are_read()
+    ensures run { ReadRunIsFurther }
+    ensures pool { ReadPoolIsFurther }
+    ensures part { HeldPartIsFurther }
+{}
+
+/// A forest reads the rows of its table and its trees' modes, and nothing else.
+pub fn rows_that_a_forest_reads()
+    ensures { ForestReadsItsRows }
+{}
+
+/// Where a part is laid anew, or a buffer begins, grows, ends or is dropped, no other tree's anchor is in the plan.
+pub fn anchors_of_other_trees()
+    ensures stay { OtherAnchorsStay }
+    ensures laid { PlanKeepsAnchors }
+    ensures first { FirstKeepsAnchors }
+    ensures ends { EndKeepsAnchors }
+    ensures dropped { DropKeepsAnchors }
+{}
+
+/// The gaps that the images of a plan give to the rows of a new part are those that its rows will give, and the row from which
+/// it hangs keeps the gap that was seen for it.
+pub fn gaps_of_a_new_part()
+    ensures read { PartGapIsRead }
+    ensures top { TopKeepsGap }
 {}

@@ -1,9 +1,9 @@
-use Rattle.lt_forest.proofs.GapLaws.{top_placed, left_placed, right_placed}
+use Rattle.lt_forest.proofs.PublicLaws.{top_is_seen, left_is_seen, right_is_seen}
 use Rattle.lt_forest.proofs.laws.gaps_on_the_way.Goals as goal
 
 pub returns : goal.returns
 returns c = record {
-  top = λ trees rows c mode state f t r score forest. top_placed forest t r score;
-  left = λ trees rows c mode state f t p r g score forest. left_placed forest t p r g score;
-  right = λ trees rows c mode state f t p r g score forest. right_placed forest t p r g score;
+  top = top_is_seen;
+  left = left_is_seen;
+  right = right_is_seen;
 }

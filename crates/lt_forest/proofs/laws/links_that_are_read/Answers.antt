@@ -1,14 +1,14 @@
-use Rattle.lt_forest.proofs.ViewLessons.{top_read, left_read, right_read, read_names, read_apart, read_back, read_pool_apart, read_vacant}
+use Rattle.lt_forest.proofs.PublicLaws.{top_is_read, left_is_read, right_is_read, read_links_name_further, none_is_read_twice, none_is_read_back, pool_is_read_apart, vacant_is_read}
 use Rattle.lt_forest.proofs.laws.links_that_are_read.Goals as goal
 
 pub returns : goal.returns
 returns c = record {
-  top = λ has v trees rows c mode state f t r score forest agrees. top_read forest agrees t r score;
-  left = λ has v trees rows c mode state f t p r g score forest agrees. left_read forest agrees t p r g score;
-  right = λ has v trees rows c mode state f t p r g score forest agrees. right_read forest agrees t p r g score;
-  further = λ has v trees rows c mode state f s forest agrees. read_names forest agrees s;
-  apart = λ has v trees rows c mode state f s l r forest agrees. read_apart forest agrees s l r;
-  back = λ has v trees rows c mode state f t q forest agrees. read_back forest agrees t q;
-  pool_apart = λ has v trees rows c mode state f t q g score forest agrees. read_pool_apart forest agrees t q g score;
-  vacant = λ has v trees rows c mode state f forest agrees. read_vacant forest agrees;
+  top = top_is_read;
+  left = left_is_read;
+  right = right_is_read;
+  further = read_links_name_further;
+  apart = none_is_read_twice;
+  back = none_is_read_back;
+  pool_apart = pool_is_read_apart;
+  vacant = vacant_is_read;
 }

@@ -1,10 +1,9 @@
-use Rattle.lt_forest.proofs.StateLaws.{rows_add_up, vacant_there}
-use Rattle.lt_forest.proofs.Openings.{opens}
+use Rattle.lt_forest.proofs.PublicLaws.{rows_add_up, vacant_is_there, opening_is_forest}
 use Rattle.lt_forest.proofs.laws.rows_in_all.Goals as goal
 
 pub returns : goal.returns
 returns c = record {
-  all = λ trees rows c mode state f forest. rows_add_up forest;
-  vacant = λ trees rows c mode state f forest room. vacant_there forest room;
-  opening = λ trees rows c opening. opens opening;
+  all = rows_add_up;
+  vacant = vacant_is_there;
+  opening = opening_is_forest;
 }

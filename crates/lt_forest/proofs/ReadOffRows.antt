@@ -1,5 +1,5 @@
 -- What a pass reads off its rows is true of the forest: gaps, links, pairs and chains.
-use Rattle.std.proofs.Common.{◌≡◌, ◌≢◌, ◌⊎◌, ℕ, ◌+◌, ◌<◌, List, ◌∷◌, length, true, sym, ap, ◌∙◌, subst}
+use Rattle.std.proofs.Common.{◌≡◌, ◌≢◌, ◌⊎◌, ℕ, ◌+◌, ◌<◌, List, [], ◌∷◌, length, true, sym, ap, ◌∙◌, subst, arith}
 use Rattle.std.specs.Prelude.{None, Some}
 use Rattle.lt_ranges.specs.Interval.{Interval, overlap, whole}
 use Rattle.lt_seq.specs.declared.event.Pair.{Pair}
@@ -7,22 +7,25 @@ use Rattle.lt_seq.specs.declared.event.Mode.{Mode}
 use Rattle.lt_seq.specs.declared.event.Mode.TheVariants.{Tree as TreeMode, Buffer}
 use Rattle.lt_seq.specs.Sound.{AllSound}
 use Rattle.lt_seq.specs.Table.{TreeState, tree_at, used}
+use Rattle.lt_forest.specs.Counts.{times}
 use Rattle.lt_forest.specs.Bounds.{Gap}
 use Rattle.lt_forest.specs.Pairs.{Has}
 use Rattle.lt_forest.specs.Trees.{Node, Nodes, left_end, right_end, pairs_in}
 use Rattle.lt_forest.specs.Cuts.{Cut, bare}
-use Rattle.lt_forest.specs.Forest.{Forest, IsTree, IsChain, AllOf, folded, IsForest, IsPlaced}
+use Rattle.lt_forest.specs.Forest.{Forest, IsTree, IsChain, IsRun, AllOf, folded, IsForest, IsPlaced}
 use Rattle.lt_forest.specs.Plans.{Top, from_anchor, IsSeen, IsClosedFor}
 use Rattle.lt_forest.specs.Links.{Slot, left_of, right_of, row_with, link_in, IsLinkOf, IsLink, Leads, by_link, and_on}
 use Rattle.lt_forest.specs.Views.{Agrees, AllHeld, HoldsPart}
-use Rattle.lt_forest.proofs.Chains.{on_folded, on_owner}
+use Rattle.lt_forest.proofs.Chains.{on_folded, on_owner, on_run}
+use Rattle.lt_forest.proofs.SameRows.{one_here, on_right}
+use Rattle.lt_forest.proofs.FurtherRows.{run_further, taken_further}
 use Rattle.lt_forest.proofs.PartLaws.{part_has, part_has_all}
 use Rattle.lt_forest.proofs.StateLaws.{vacant_there, chain_shows, whole_shows}
 use Rattle.lt_forest.proofs.GapLaws.{top_placed, left_placed, right_placed}
-use Rattle.lt_forest.proofs.LinkLaws.{link_names, links_apart, pool_apart}
-use Rattle.lt_forest.proofs.PathLaws.{none_back}
-use Rattle.lt_forest.proofs.ViewLaws.{true_part, true_pairs, true_closed}
-use Rattle.lt_forest.proofs.ViewBuffers.{chain_same, true_chain}
+use Rattle.lt_forest.proofs.NamedOnce.{link_names, links_apart, pool_apart}
+use Rattle.lt_forest.proofs.NoWayBack.{none_back}
+use Rattle.lt_forest.proofs.PlansInView.{held_same, true_part, true_pairs, true_closed}
+use Rattle.lt_forest.proofs.BuffersInView.{chain_same, true_chain}
 
 module _ {has : ℕ → Type 0} {v c : Nodes} {trees rows : ℕ} {mode : ℕ → Mode} {state : List TreeState} {f : Forest}
     (forest : IsForest trees rows c mode state f) (agrees : Agrees has v c) where
@@ -64,6 +67,21 @@ module _ {has : ℕ → Type 0} {v c : Nodes} {trees rows : ℕ} {mode : ℕ →
 
   pub read_back : (t q : ℕ) → t < trees → Leads v (λ s. has (row_with s) × IsLinkOf (f.tree t) s) q q → ⊥
   read_back t q lt way = none_back forest t q lt (true_way t q q way)
+
+  -- runs along held rows
+  true_run : (h last : ℕ) (run : List ℕ) → AllHeld has (h ∷ run) → IsRun v (v h).left run last → IsRun c (c h).left run last
+  true_run h last run held runs =
+      subst (λ (n : Node). IsRun c n.left run last) (agrees h (held h (let o = one_here h in omega arith)))
+      (on_run v c (v h).left run last (on_right v c (h ∷ []) run (held_same has v c (h ∷ run) agrees held)) runs)
+
+  pub read_run_further : (t owner count last q : ℕ) (run : List ℕ) → AllHeld has (t ∷ run) → t < trees
+      → mode t ≡ Buffer owner count → IsRun v (v t).left run last → 0 < times q run → (trees < q) × (q < rows)
+  read_run_further t owner count last q run held lt is runs =
+      run_further forest t owner count last q run lt is (true_run t last run held runs)
+
+  pub read_pool_further : (last q : ℕ) (run : List ℕ) → AllHeld has (trees ∷ run) → IsRun v (v trees).left run last
+      → 0 < times q run → (trees < q) × (q < rows)
+  read_pool_further last q run held runs = taken_further forest last q run (true_run trees last run held runs)
 
   pub read_pool_apart : (t q : ℕ) (g : Gap) (score : ℕ) → has trees → IsPlaced trees c mode f t q g score → (v trees).left ≡ q + 1 → ⊥
   read_pool_apart t q g score held seen is =

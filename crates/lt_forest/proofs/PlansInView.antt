@@ -1,6 +1,8 @@
 -- What a pass holds and plans is true of the forest: parts, plans for events, and changes of layout.
-use Rattle.std.proofs.Common.{◌≡◌, ℕ, ◌+◌, ◌<◌, List, [], ◌∷◌, ◌++◌, refl, sym, ap, ◌∙◌, subst}
+use Rattle.std.proofs.Common.{◌≡◌, ◌≢◌, inl, inr, ℕ, ◌+◌, ◌<◌, List, [], ◌∷◌, ◌++◌, refl, sym, ap, ◌∙◌, subst, arith}
 use Rattle.std.specs.Prelude.{None}
+use mathlib.Core.Logic.{dite}
+use native.Mathlib.Decide.{ℕ_discrete}
 use Rattle.lt_ranges.specs.Interval.{Interval}
 use Rattle.lt_seq.specs.declared.event.Pair.{Pair}
 use Rattle.lt_seq.specs.declared.event.Mode.{Mode}
@@ -9,17 +11,19 @@ use Rattle.lt_seq.specs.declared.event.Deed.{Deed}
 use Rattle.lt_seq.specs.Pairs.{IsLawful}
 use Rattle.lt_seq.specs.Sound.{AllSound}
 use Rattle.lt_seq.specs.Table.{Setting, TreeState, tree_after, replied, tree_of}
+use Rattle.lt_forest.specs.Counts.{times}
 use Rattle.lt_forest.specs.Pairs.{Has}
 use Rattle.lt_forest.specs.Trees.{Node, Nodes, in_order, pairs_in}
 use Rattle.lt_forest.specs.Cuts.{Cut, end, held, Shows, bare, End, ends, Looser, AllAside}
 use Rattle.lt_forest.specs.Forest.{Forest, IsTree, IsRun, IsForest, ChangesOnly, KeepsModes}
 use Rattle.lt_forest.specs.Plans.{after_deed, IsReplied, Top, from_anchor, from_row, top_link, IsInGap, IsSeen, KeepsLink, IsPart, IsClosedFor, MovesPool, Lays, range_of, ShowsDeed, Relaid, ReplacedPart}
-use Rattle.lt_forest.specs.Views.{Agrees, IsView, AllHeld, PlansOnly, TopHeld, TopStays, HoldsPart, PoolPlan, no_pool, from_pool, PlanLays, PlanShows}
-use Rattle.lt_forest.proofs.SameRows.{AgreeOn, on_left, on_right, on_here, on_pairs}
+use Rattle.lt_forest.specs.Views.{Agrees, IsView, AllHeld, PlansOnly, PlansModes, SameMode, TopHeld, TopStays, HoldsPart, PoolPlan, no_pool, from_pool, PlanLays, PlanShows}
+use Rattle.lt_forest.proofs.SameRows.{times-++, AgreeOn, on_left, on_right, on_here, on_pairs}
 use Rattle.lt_forest.proofs.EndLaws.{on_ends}
-use Rattle.lt_forest.proofs.OrderLaws.{looser_same}
+use Rattle.lt_forest.proofs.RowsAndHangs.{looser_same}
 use Rattle.lt_forest.proofs.Chains.{on_run}
 use Rattle.lt_forest.proofs.GapLaws.{placed_tree}
+use Rattle.lt_forest.proofs.FurtherRows.{part_further, taken_further, none_of, other_one}
 use Rattle.lt_forest.proofs.PlanLaws.{replaced}
 use Rattle.lt_forest.proofs.EventLaws.{score_of, deed_replies, event_relaid, layout_relaid}
 
@@ -77,10 +81,15 @@ module _ {has : ℕ → Type 0} {t : ℕ} {top : Top} {v c : Nodes} {cut : Cut} 
 
 -- plans
 
-top_stays : (planned : List ℕ) (c d : Nodes) (t : ℕ) (top : Top) → ChangesOnly planned c d → TopStays planned t top
-    → KeepsLink top (c t) (d t)
-top_stays planned c d t from_anchor stays h = tt
-top_stays planned c d t (from_row h g) stays k = ap (λ (n : Node). n.left) (stays t k)
+top_stays : (has : ℕ → Type 0) (planned : List ℕ) (v v' c d : Nodes) (t : ℕ) (top : Top) → IsView has planned v v' c d
+    → TopStays has planned t top v v' → KeepsLink top (c t) (d t)
+top_stays has planned v v' c d t from_anchor view h = tt
+top_stays has planned v v' c d t (from_row h g) view k =
+    let left : Node → ℕ = λ n. n.left in
+    elim k [
+      | inl unplanned ↦ ap left (view.stays t unplanned)
+      | inr m ↦ ap left (sym (view.before t m.0)) ∙ (m.1 ∙ ap left (view.after t m.0))
+    ]
 
 module _ {has : ℕ → Type 0} {planned : List ℕ} {trees : ℕ} {v v' c d : Nodes} {taken given : List ℕ}
     (view : IsView has planned v v' c d) where
@@ -112,7 +121,7 @@ module _ {has : ℕ → Type 0} {planned : List ℕ} {trees t : ℕ} {top : Top}
         (subst (Looser (ends v cut None None)) (on_ends v' d new None None new_same) plan.loose);
     pool = true_pool view plan.pool;
     rows = plan.rows;
-    link = top_stays planned c d t top view.stays plan.link;
+    link = top_stays has planned v v' c d t top view plan.link;
     others = planned_only (t ∷ trees ∷ in_order (bare cut) ++ taken) planned c d view.stays plan.others;
   }
 
@@ -134,10 +143,25 @@ module _ {has : ℕ → Type 0} {planned : List ℕ} {trees t : ℕ} {top : Top}
         question = shows.question;
       }
 
+-- no other tree's anchor is in the plan
+pub anchors_apart : {has : ℕ → Type 0} {planned : List ℕ} {trees rows t : ℕ} {top : Top} {v v' c d : Nodes} {mode : ℕ → Mode}
+    {state : List TreeState} {f : Forest} {cut new : Cut} {taken given : List ℕ} → IsPart trees rows c mode state f t top cut
+    → IsView has planned v v' c d → PlanLays has planned trees t top v v' cut new taken given
+    → (s : ℕ) → s < trees → s ≢ t → times s planned ≡ 0
+anchors_apart {trees = trees} {t = t} {cut = cut} {taken = taken} part view plan s lt ne =
+    let pool = true_pool view plan.pool in
+    let a : times s (t ∷ []) ≡ 0 = other_one t s ne in
+    let b : times s (trees ∷ []) ≡ 0 = other_one trees s (λ e. omega arith) in
+    let m : times s (in_order (bare cut)) ≡ 0 = none_of (in_order (bare cut)) s trees (omega arith) (λ r some. (part_further part r some).0) in
+    let n : times s taken ≡ 0 =
+    none_of taken s trees (omega arith) (λ r some. (taken_further part.forest pool.rest r taken pool.takes some).0) in
+    let sum = times-++ s (in_order (bare cut)) taken in
+    plan.others s (omega arith)
+
 -- a plan that changes nothing
 pub unchanged : {has : ℕ → Type 0} {t : ℕ} {top : Top} {v : Nodes} {cut : Cut} (trees : ℕ) → HoldsPart has t top v cut
     → PlanLays has [] trees t top v v cut cut [] []
-unchanged {t = t} {top = top} {v = v} {cut = cut} trees part = record {
+unchanged {has = has} {t = t} {top = top} {v = v} {cut = cut} trees part = record {
   part = part;
   shows = part.shows;
   new_held = part.rows;
@@ -148,9 +172,9 @@ unchanged {t = t} {top = top} {v = v} {cut = cut} trees part = record {
   others = λ r none. refl;
 }
   where
-    none_planned : (at : Top) → TopStays [] t at
+    none_planned : (at : Top) → TopStays has [] t at v v
     none_planned from_anchor = tt
-    none_planned (from_row h g) = refl
+    none_planned (from_row h g) = inl refl
 
 -- a plan for an event
 
@@ -165,26 +189,32 @@ module _ {has : ℕ → Type 0} {planned : List ℕ} {trees rows : ℕ} {top : T
     (seen : IsSeen c (f.tree (tree_of deed)) top) (full : score ≡ 100 → mode (tree_of deed) ≡ TreeMode 100)
     (view : IsView has planned v v' c d) (plan : PlanLays has planned trees (tree_of deed) top v v' cut new taken given)
     (closed : IsClosedFor (range_of deed) top v cut)
-    (shows : PlanShows setting txn deed top score v v' cut new (mode (tree_of deed)) (mode' (tree_of deed)))
-    (other_modes : KeepsModes (tree_of deed) mode mode') where
+    (shows : PlanShows planned setting txn deed top score v v' cut new (mode (tree_of deed)) (mode' (tree_of deed)))
+    (modes : PlansModes trees planned mode mode') where
   abbrev t : ℕ
   t = tree_of deed
 
   known_deed : (at : Top) → IsSeen c (f.tree (tree_of deed)) at
-      → PlanShows setting txn deed at score v v' cut new (mode (tree_of deed)) (mode' (tree_of deed))
+      → PlanShows planned setting txn deed at score v v' cut new (mode (tree_of deed)) (mode' (tree_of deed))
       → ShowsDeed setting txn deed v v' cut new (mode (tree_of deed)) (mode' (tree_of deed))
   known_deed from_anchor seen shows = shows
-  known_deed (from_row h g) seen shows =
-      let m = score_of (mode t) (placed_tree forest t h g tree seen) in
-      subst (λ (n : Mode). ShowsDeed setting txn deed v v' cut new (mode t) n) shows.0
-      (subst (λ (n : Mode). ShowsDeed setting txn deed v v' cut new n n) (sym m.1)
-      (shows.1 m.0 (λ e. ap score_in (sym m.1 ∙ full e))))
+  known_deed (from_row h g) seen shows = elim shows [
+    | inl known ↦ known
+    | inr any ↦
+        let m = score_of (mode t) (placed_tree forest t h g tree seen) in
+        subst (λ (n : Mode). ShowsDeed setting txn deed v v' cut new (mode t) n) (modes t tree any.0)
+        (subst (λ (n : Mode). ShowsDeed setting txn deed v v' cut new n n) (sym m.1)
+        (any.1 m.0 (λ e. ap score_in (sym m.1 ∙ full e))))
+  ]
 
   view_deed : ShowsDeed setting txn deed v v' cut new (mode (tree_of deed)) (mode' (tree_of deed))
   view_deed = known_deed top seen shows
 
   view_part : IsPart trees rows c mode state f (tree_of deed) top cut
   view_part = true_part view.before plan.part forest sound tree view_deed.was_tree seen
+
+  other_modes : KeepsModes trees (tree_of deed) mode mode'
+  other_modes s lt ne = modes s lt (anchors_apart view_part view plan s lt ne)
 
   pub view_relaid : Relaid trees rows c d mode mode' state (after_deed setting txn deed state)
       f (tree_of deed) top cut new
@@ -197,14 +227,27 @@ module _ {has : ℕ → Type 0} {planned : List ℕ} {trees rows : ℕ} {top : T
 
 -- a change of layout alone
 
-module _ {has : ℕ → Type 0} {planned : List ℕ} {trees rows t : ℕ} {top : Top} {v v' c d : Nodes} {mode : ℕ → Mode}
+module _ {has : ℕ → Type 0} {planned : List ℕ} {trees rows t : ℕ} {top : Top} {v v' c d : Nodes} {mode mode' : ℕ → Mode}
     {state : List TreeState}
     {f : Forest} {cut new : Cut} (forest : IsForest trees rows c mode state f) (sound : AllSound state) (tree : t < trees)
     (tree_mode : IsTree (mode t)) (seen : IsSeen c (f.tree t) top) (view : IsView has planned v v' c d)
-    (plan : PlanLays has planned trees t top v v' cut new [] []) (same : pairs_in v' (bare new) ≡ pairs_in v (bare cut)) where
-  pub view_settled : Relaid trees rows c d mode mode state state f t top cut new
-  view_settled = layout_relaid (true_part view.before plan.part forest sound tree tree_mode seen) (true_lays view plan)
-      (sym (new_pairs view plan) ∙ (same ∙ true_pairs view.before plan.part))
+    (plan : PlanLays has planned trees t top v v' cut new [] []) (same : pairs_in v' (bare new) ≡ pairs_in v (bare cut))
+    (modes : PlansModes trees planned mode mode') (own : SameMode planned t top (mode t) (mode' t)) where
+  layout_part : IsPart trees rows c mode state f t top cut
+  layout_part = true_part view.before plan.part forest sound tree tree_mode seen
+
+  own_mode : (at : Top) → SameMode planned t at (mode t) (mode' t) → mode t ≡ mode' t
+  own_mode from_anchor is = is
+  own_mode (from_row h g) is = elim is [ inl e ↦ e | inr unplanned ↦ modes t tree unplanned ]
+
+  all_modes : (s : ℕ) → s < trees → mode s ≡ mode' s
+  all_modes s lt = dite (ℕ_discrete s t)
+      (λ e. subst (λ (n : ℕ). mode n ≡ mode' n) (sym e) (own_mode top own))
+      (λ ne. modes s lt (anchors_apart layout_part view plan s lt ne))
+
+  pub view_settled : Relaid trees rows c d mode mode' state state f t top cut new
+  view_settled = layout_relaid layout_part (true_lays view plan)
+      (sym (new_pairs view plan) ∙ (same ∙ true_pairs view.before plan.part)) all_modes
 
 -- any ranges that fit
 
