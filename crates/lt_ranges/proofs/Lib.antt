@@ -7,3 +7,7 @@ pub mod QuotingLaws
 pub mod KeyTextLaws
 pub mod TextFaultLaws
 pub mod ReadSoFar
+pub mod MappedSoFar
+pub mod PackedWords
+pub mod PackedBytes
+pub mod PackingLaws

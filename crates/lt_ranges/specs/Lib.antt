@@ -4,5 +4,6 @@ pub mod KeyOrder
 pub mod Interval
 pub mod RangeOrder
 pub mod KeyText
+pub mod Packing
 pub mod TextFault
 pub mod Numbers

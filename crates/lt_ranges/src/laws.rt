@@ -1,10 +1,13 @@
 //! Laws of keys and of their texts, each as the contract of a function that does nothing.
-ghost use Rattle.std.specs.Prelude.{◌≡◌, ℕ, List, false, IsTrue};
+ghost use Rattle.std.specs.Prelude.{◌≡◌, ◌≢◌, ℕ, List, Some, None, false, IsTrue};
+ghost use Rattle.std.specs.Ordering.{nat_cmp};
 ghost use Rattle.std.specs.Cmp.{IsTotalOrder};
+ghost use Rattle.std.specs.Cmp.Lexicographic.{slice_cmp};
 ghost use Rattle.lt_ranges.specs.declared.key.Key.{Key};
 ghost use Rattle.lt_ranges.specs.Key.{key_cmp, key_le, begins_with};
 ghost use Rattle.lt_ranges.specs.Interval.{Interval, IsInterval, OverlapsByKeys, CoversByKeys, IsLeastOver, has, hull, prefix_range};
 ghost use Rattle.lt_ranges.specs.KeyText.{key_text, IsOfBytes};
+ghost use Rattle.lt_ranges.specs.Packing.{IsValid, packed, unpacked};
 
 /// Keys stand in one total order, and keys that tie are the same key.
 #[tactic(auto, using(crate::specs::KeyOrder::key_total, crate::proofs::KeyLaws::le_both))]
@@ -37,4 +40,13 @@ pub fn ranges_by_their_keys()
 #[tactic(auto, using(crate::proofs::KeyTextLaws::text_once))]
 pub fn texts_are_unique()
     ensures { (x y : Key) → IsOfBytes x → IsOfBytes y → key_text x ≡ key_text y → x ≡ y }
+{}
+
+/// Packed keys, compared word by word from the front, stand to each other as the keys do. Each is
+/// unpacked to the key that was packed, and words that are unpacked to none are those of no key.
+#[tactic(auto, using(crate::proofs::PackingLaws::packed_order, crate::proofs::PackingLaws::unpacked_again, crate::proofs::PackingLaws::none_packs))]
+pub fn packed_keys()
+    ensures order { (x y : Key) → IsValid x → IsValid y → slice_cmp nat_cmp (packed x) (packed y) ≡ key_cmp x y }
+    ensures back { (key : Key) → IsValid key → unpacked (packed key) ≡ Some key }
+    ensures none { (words : List ℕ) → unpacked words ≡ None → (key : Key) → IsValid key → packed key ≢ words }
 {}
