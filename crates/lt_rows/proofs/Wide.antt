@@ -1,5 +1,5 @@
 -- A view has as many entries after a commit or a settle as before.
-use Rattle.std.proofs.Common.{◌≡◌, ℕ, suc, List, [], ◌∷◌, length, set, get_or, refl, ap, ◌∙◌, length-set}
+use Rattle.std.proofs.Common.{◌≡◌, suc, List, [], ◌∷◌, length, set, get_or, refl, ap, ◌∙◌, length-set}
 use Rattle.std.specs.Prelude.{Option, Some, None}
 use Rattle.lt_rows.specs.declared.view.SeenGap.{SeenGap}
 use Rattle.lt_rows.specs.declared.view.Row.{Row}

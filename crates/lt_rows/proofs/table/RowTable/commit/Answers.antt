@@ -1,4 +1,4 @@
-use Rattle.std.proofs.Common.{ℤ, List, [], length, ap, ◌∙◌, subst, sym, w64}
+use Rattle.std.proofs.Common.{ℤ, [], length, ap, ◌∙◌, subst, sym, w64}
 use Rattle.std.proofs.lemmas.Int.{to_z-of_z}
 use Rattle.lt_seq.specs.declared.plan.YardPlan.{YardPlan}
 use Rattle.lt_rows.specs.declared.view.View.{View}
