@@ -1,0 +1,42 @@
+use Rattle.std.proofs.Common.{rules, ◌≡◌, ◌++◌, ◌∷◌, [], ◌+◌, ap, refl, sym, ◌∙◌, length, List}
+use Rattle.lt_ranges.specs.Interval.{Interval}
+use Rattle.lt_seq.specs.declared.event.Event.{Event}
+use Rattle.lt_seq.specs.declared.event.Deed.{Deed}
+use Rattle.lt_seq.specs.declared.event.Deed.TheVariants.{Ask}
+use Rattle.lt_seq.specs.declared.event.Reply.TheVariants.{Buffered}
+use Rattle.lt_seq.specs.declared.plan.YardPlan.{YardPlan}
+use Rattle.lt_rows.specs.declared.view.View.{View}
+use Rattle.lt_rows.specs.Handles.{knows}
+use Rattle.lt_rows.proofs.BufferAsk.{buffer_ask}
+use Rattle.lt_rows.proofs.ThreeRows.{apart, held_after}
+use Rattle.lt_rows.proofs.worked.commit_buffered.Goals as goal
+
+pub commit-requires-clause-lawful : goal.commit-requires-clause-lawful
+commit-requires-clause-lawful c =
+    let three = c.args.three.now in
+    let pool_long : length c.args.three.now.pool.words ≡ 21 = search rules in
+    buffer_ask c.args.table.now.plan c.requires.three.0 (knows c.args.pass.now) c.args.tree c.args.txn c.args._count three c.args.plan.0 c.args.plan.1 c.args.plan.2 c.requires.txn c.requires.tree c.requires.three.1 pool_long c.requires.plan
+    c.args.pass.now.number _ (sym c.args.pass.now.numbered.0) (ap (λ (r : Interval). Ask c.args.tree r Buffered) c.whole.ensures) c.requires.fresh.2 c.requires.buffer
+
+pub returns-clause-made : goal.returns-clause-made
+returns-clause-made c =
+    let v : View = knows c.args.pass.now in
+    let made = c.commit.ensures.made in
+    let log : List Event = v.front ++ made.0 in
+    let deed_is = ap (λ (r : Interval). Ask c.args.tree r Buffered) c.whole.ensures in
+    record {
+      log = log;
+      seen = (made.0, refl);
+      front = ap (λ (u : View). u.front) made.2 ∙ ap (λ (d : Deed). (v.front ++ made.0) ++ record { pass = c.args.pass.now.number; txn = c.args.txn; deed = d } ∷ []) deed_is;
+      place_is = made.1.place_is ∙ ap (λ (k : YardPlan). k.first + length (v.front ++ made.0)) c.requires.of.1;
+    }
+
+pub returns-clause-rows : goal.returns-clause-rows
+returns-clause-rows c =
+    let plan = c.requires.plan in
+    held_after c.args.table.now.plan c.requires.three.0 (knows c.args.pass.now) c.args.tree c.args.three.now c.args.plan.0 c.args.plan.1 c.args.plan.2 c.requires.tree c.requires.three.1 plan.anchor_row plan.pool_row plan.vacant_row (knows c.commit.new.pass) _ c.commit.ensures.made.2
+
+pub returns-clause-apart : goal.returns-clause-apart
+returns-clause-apart c =
+    let plan = c.requires.plan in
+    apart c.args.table.now.plan c.requires.three.0 (knows c.args.pass.now) c.args.tree c.args.three.now c.args.plan.0 c.args.plan.1 c.args.plan.2 c.requires.tree c.requires.three.1 plan.anchor_row plan.pool_row plan.vacant_row
