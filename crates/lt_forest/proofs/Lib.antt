@@ -31,6 +31,12 @@ pub mod NoWayBack
 pub mod StateLaws
 pub mod Openings
 pub mod VisitLaws
+pub mod NamedInCuts
+-- what a search relies on
+pub mod RowsAscend
+pub mod Splits
+pub mod HangsAside
+pub mod Reached
 -- deeds
 pub mod PlanLaws
 pub mod EventLaws
@@ -39,6 +45,7 @@ pub mod BufferLaws
 pub mod PlansInView
 pub mod BuffersInView
 pub mod ReadOffRows
+pub mod WidenedParts
 -- each public law by its name
 pub mod PublicLaws
 -- worked

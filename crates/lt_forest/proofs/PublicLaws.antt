@@ -1,5 +1,5 @@
 -- Each public law, to be cited by its name.
-use Rattle.std.proofs.Common.{refl}
+use Rattle.std.proofs.Common.{refl, subst, sym}
 use Rattle.lt_forest.specs.LawsOfGaps.{RowsHaveOneGap, LeftChildsGap, RightChildsGap, SeenIsWithin, TopIsSeen, LeftIsSeen, RightIsSeen}
 use Rattle.lt_forest.specs.LawsOfParts.{TreesAreOrdered, ReplacedIsInOrder, VisitLeavesOutNone, VisitedIsClosed, ClosedPartHasAll, PartShowsPairs, WholePartShowsAll, EmptyTreeHasNone, PartIsReplaced, PartIsLaidForDeed, PartIsLaidAgain, TopRowStays}
 use Rattle.lt_forest.specs.LawsOfBuffers.{ChainShowsBuffer, FrontIsGranted, BufferBegins, BufferGrows, BufferEnds, BufferIsDropped, OwnerIsAlone}
@@ -7,10 +7,10 @@ use Rattle.lt_forest.specs.LawsOfRows.{RowsAddUp, VacantIsThere, OpeningIsForest
 use Rattle.lt_forest.specs.LawsOfOrder.{EndsAreHanging, EndsAreBetween, SameOrderKeeps, LeavingOutLoosens, MergingLoosens, PartWidens, PlacedShows, MiddleDecides, OwnBecomeOne}
 use Rattle.lt_forest.specs.LawsOfViews.{TopIsRead, LeftIsRead, RightIsRead, ReadLinksNameFurther, NoneIsReadTwice, NoneIsReadBack, PoolIsReadApart, VacantIsRead, HeldPartShowsPairs, HeldPartHasAll, HeldWholeShowsAll, HeldChainShowsBuffer, PlanServesDeed, PlanServesLayout, PlanServesReplacement, PlanBegins, PlanAppends, PlanEndsBuffer, PlanDropsBuffer, ReadRunIsFurther, ReadPoolIsFurther, HeldPartIsFurther}
 use Rattle.lt_forest.specs.LawsOfPlans.{OtherAnchorsStay, PlanKeepsAnchors, FirstKeepsAnchors, EndKeepsAnchors, DropKeepsAnchors, PartGapIsRead, TopKeepsGap}
-use Rattle.lt_forest.proofs.GapLaws.{gap_left, gap_right, has_is, is_has, left_placed, right_placed, row_gap, top_placed}
+use Rattle.lt_forest.proofs.GapLaws.{gap_left, gap_right, has_is, is_has, left_placed, right_placed, row_gap, top_placed, placed_tree}
 use Rattle.lt_forest.proofs.StateLaws.{chain_shows, in_order_tree, no_pairs, rows_add_up as all_rows, vacant_there, whole_shows}
 use Rattle.lt_forest.proofs.TreeParts.{replaced_ordered}
-use Rattle.lt_forest.proofs.PartLaws.{part_has, part_has_all}
+use Rattle.lt_forest.proofs.PartLaws.{part_has, part_has_all, part_lawful}
 use Rattle.lt_forest.proofs.VisitLaws.{visited_all, visited_closed}
 use Rattle.lt_forest.proofs.PlanLaws.{replaced, top_not_given, moves}
 use Rattle.lt_forest.proofs.EventLaws.{deed_replies, event_relaid, layout_relaid}
@@ -23,8 +23,8 @@ use Rattle.lt_forest.proofs.RunLaws.{merge_looser, sift_looser}
 use Rattle.lt_forest.proofs.WidenLaws.{widens}
 use Rattle.lt_forest.proofs.LayoutLaws.{laid_shows}
 use Rattle.lt_forest.proofs.MiddleSteps.{granted-own, middle_decides as in_the_middle}
-use Rattle.lt_forest.proofs.ReadOffRows.{left_read, read_apart, read_back, read_chain, read_has, read_has_all, read_names, read_pool_apart, read_vacant, read_whole, right_read, top_read, read_run_further, read_pool_further}
-use Rattle.lt_forest.proofs.PlansInView.{view_relaid, view_replaced, view_replies, view_settled, true_part, held_same, anchors_apart}
+use Rattle.lt_forest.proofs.ReadOffRows.{left_read, read_apart, read_back, read_chain, read_has, read_has_all, read_names, read_pool_apart, read_vacant, read_whole, right_read, top_read, read_run_further, read_pool_further, read_pool_back, read_empty}
+use Rattle.lt_forest.proofs.PlansInView.{view_relaid, view_replaced, view_replies, view_settled, true_part, held_same, anchors_apart, true_pairs}
 use Rattle.lt_forest.proofs.BuffersInView.{view_append_replies, view_appended, view_begin_replies, view_begun, view_drop_replies, view_dropped, view_end_replies, view_ended, first_apart, end_apart, drop_apart}
 use Rattle.lt_forest.proofs.FurtherRows.{in_tree_further, in_pool_further, run_further, taken_further, part_further, forest_same}
 use Rattle.lt_forest.proofs.ForestLaws.{anchors}
@@ -32,6 +32,14 @@ use Rattle.lt_forest.proofs.PartGaps.{on_part_gap, top_gap}
 use Rattle.lt_forest.specs.Views.{IsIn}
 use Rattle.lt_forest.specs.Trees.{in_order}
 use Rattle.lt_forest.specs.Cuts.{bare}
+use Rattle.lt_forest.specs.LawsOfSearches.{PartIsLawful, HeldPartIsLawful, LawfulPartAscends, LawfulListSplits, WidenedIsPart, WidenedIsClosed, HeldWidenedIsPart, HeldWidenedIsClosed, NoneHangsBetween, NoneHangsThere, ReachedAreNotAside, ClosedIsVisited, HangsNameOthers, HeldHangsNameOthers, CutRowsAreNamed, HeldRowsAreNamed, GapRowsTreeMode, NoneOfPoolIsReadBack, EmptyTreeIsRead}
+use Rattle.lt_seq.specs.Pairs.{IsLawful}
+use Rattle.lt_forest.proofs.RowsAscend.{items_ascend}
+use Rattle.lt_forest.proofs.Splits.{splits}
+use Rattle.lt_forest.proofs.WidenedParts.{wider_part, wider_closed, wider_held, held_wider_closed, held_named}
+use Rattle.lt_forest.proofs.HangsAside.{none_between, none_there}
+use Rattle.lt_forest.proofs.Reached.{reached_exactly, closed_visited}
+use Rattle.lt_forest.proofs.NamedInCuts.{hang_names, names_in}
 
 -- gaps_of_rows
 pub rows_have_one_gap : RowsHaveOneGap
@@ -384,3 +392,81 @@ part_gap_is_read has planned v v' c d top new q g view held =
 
 pub top_keeps_gap : TopKeepsGap
 top_keeps_gap = top_gap
+
+-- rows_of_a_part
+pub part_is_lawful : PartIsLawful
+part_is_lawful trees rows c mode state f t top cut part =
+    part_lawful part
+
+pub held_part_is_lawful : HeldPartIsLawful
+held_part_is_lawful has v trees rows c mode state f t top cut forest sound lt tree_mode seen agrees part =
+    subst IsLawful (sym (true_pairs agrees part)) (part_lawful (true_part agrees part forest sound lt tree_mode seen))
+
+pub lawful_part_ascends : LawfulPartAscends
+lawful_part_ascends = items_ascend
+
+pub lawful_list_splits : LawfulListSplits
+lawful_list_splits range pairs lawful interval =
+    splits range pairs lawful
+
+-- widened_parts
+pub widened_is_part : WidenedIsPart
+widened_is_part trees rows c mode state f t top cut r before behind w part =
+    wider_part part w
+
+pub widened_is_closed : WidenedIsClosed
+widened_is_closed trees rows c mode state f t top cut r before behind w range part =
+    wider_closed part w range
+
+pub held_widened_is_part : HeldWidenedIsPart
+held_widened_is_part has v t top cut r before behind w part held =
+    wider_held w part held
+
+pub held_widened_is_closed : HeldWidenedIsClosed
+held_widened_is_closed has v trees rows c mode state f t top cut r before behind w range forest sound lt tree_mode seen agrees part held =
+    held_wider_closed forest sound lt tree_mode seen agrees part w held range
+
+-- hangs_of_closed_parts
+pub none_hangs_between : NoneHangsBetween
+none_hangs_between c top cut range ahead p l q behind lawful closed =
+    none_between c cut range ahead p l q behind lawful closed.aside
+
+pub none_hangs_there : NoneHangsThere
+none_hangs_there c top cut range ahead l behind interval closed =
+    none_there c cut range ahead l behind interval closed.aside
+
+pub reached_are_not_aside : ReachedAreNotAside
+reached_are_not_aside = reached_exactly
+
+pub closed_is_visited : ClosedIsVisited
+closed_is_visited c top cut range closed =
+    closed_visited c cut range closed.aside
+
+-- rows_that_are_named
+pub hangs_name_others : HangsNameOthers
+hangs_name_others trees rows c mode state f t top cut r part =
+    hang_names part r
+
+pub held_hangs_name_others : HeldHangsNameOthers
+held_hangs_name_others has v trees rows c mode state f t top cut r forest sound lt tree_mode seen agrees part =
+    hang_names (true_part agrees part forest sound lt tree_mode seen) r
+
+pub cut_rows_are_named : CutRowsAreNamed
+cut_rows_are_named = names_in
+
+pub held_rows_are_named : HeldRowsAreNamed
+held_rows_are_named has v t top cut q part some =
+    held_named part q some
+
+-- trees_and_pools_that_are_read
+pub gap_rows_tree_mode : GapRowsTreeMode
+gap_rows_tree_mode trees rows c mode state f t q g forest =
+    placed_tree forest t q g
+
+pub none_of_pool_is_read_back : NoneOfPoolIsReadBack
+none_of_pool_is_read_back has v trees rows c mode state f q forest agrees =
+    read_pool_back forest agrees q
+
+pub empty_tree_is_read : EmptyTreeIsRead
+empty_tree_is_read has v trees rows c mode state f t forest agrees =
+    read_empty forest agrees t

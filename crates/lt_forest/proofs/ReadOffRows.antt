@@ -12,7 +12,7 @@ use Rattle.lt_forest.specs.Bounds.{Gap}
 use Rattle.lt_forest.specs.Pairs.{Has}
 use Rattle.lt_forest.specs.Trees.{Node, Nodes, left_end, right_end, pairs_in}
 use Rattle.lt_forest.specs.Cuts.{Cut, bare}
-use Rattle.lt_forest.specs.Forest.{Forest, IsTree, IsChain, IsRun, AllOf, folded, IsForest, IsPlaced}
+use Rattle.lt_forest.specs.Forest.{Forest, chain, IsTree, IsChain, IsRun, AllOf, folded, IsForest, IsPlaced}
 use Rattle.lt_forest.specs.Plans.{Top, from_anchor, IsSeen, IsClosedFor}
 use Rattle.lt_forest.specs.Links.{Slot, left_of, right_of, row_with, link_in, IsLinkOf, IsLink, Leads, by_link, and_on}
 use Rattle.lt_forest.specs.Views.{Agrees, AllHeld, HoldsPart}
@@ -20,10 +20,10 @@ use Rattle.lt_forest.proofs.Chains.{on_folded, on_owner, on_run}
 use Rattle.lt_forest.proofs.SameRows.{one_here, on_right}
 use Rattle.lt_forest.proofs.FurtherRows.{run_further, taken_further}
 use Rattle.lt_forest.proofs.PartLaws.{part_has, part_has_all}
-use Rattle.lt_forest.proofs.StateLaws.{vacant_there, chain_shows, whole_shows}
+use Rattle.lt_forest.proofs.StateLaws.{no_pairs, vacant_there, chain_shows, whole_shows}
 use Rattle.lt_forest.proofs.GapLaws.{top_placed, left_placed, right_placed}
 use Rattle.lt_forest.proofs.NamedOnce.{link_names, links_apart, pool_apart}
-use Rattle.lt_forest.proofs.NoWayBack.{none_back}
+use Rattle.lt_forest.proofs.NoWayBack.{none_back, pool_none_back}
 use Rattle.lt_forest.proofs.PlansInView.{held_same, true_part, true_pairs, true_closed}
 use Rattle.lt_forest.proofs.BuffersInView.{chain_same, true_chain}
 
@@ -61,12 +61,19 @@ module _ {has : ℕ → Type 0} {v c : Nodes} {trees rows : ℕ} {mode : ℕ →
       links_apart forest s l r one two ne (sym (same_link s held) ∙ is) (sym (same_link l held') ∙ js)
 
   -- a way along held rows is one of the forest
-  true_way : (t q r : ℕ) → Leads v (λ s. has (row_with s) × IsLinkOf (f.tree t) s) q r → Leads c (IsLinkOf (f.tree t)) q r
-  true_way t q r (by_link s x p is) = by_link s x p.1 (sym (same_link s p.0) ∙ is)
-  true_way t q r (and_on s x before p is) = and_on s x (true_way t q (row_with s) before) p.1 (sym (same_link s p.0) ∙ is)
+  true_way : (P : Slot → Type 0) (q r : ℕ) → Leads v (λ s. has (row_with s) × P s) q r → Leads c P q r
+  true_way P q r (by_link s x p is) = by_link s x p.1 (sym (same_link s p.0) ∙ is)
+  true_way P q r (and_on s x before p is) = and_on s x (true_way P q (row_with s) before) p.1 (sym (same_link s p.0) ∙ is)
 
   pub read_back : (t q : ℕ) → t < trees → Leads v (λ s. has (row_with s) × IsLinkOf (f.tree t) s) q q → ⊥
-  read_back t q lt way = none_back forest t q lt (true_way t q q way)
+  read_back t q lt way = none_back forest t q lt (true_way (IsLinkOf (f.tree t)) q q way)
+
+  pub read_pool_back : (q : ℕ) → Leads v (λ s. has (row_with s) × IsLinkOf (chain f.pool) s) q q → ⊥
+  read_pool_back q way = pool_none_back forest q (true_way (IsLinkOf (chain f.pool)) q q way)
+
+  pub read_empty : (t : ℕ) → has t → t < trees → IsTree (mode t) → (v t).left ≡ 0 → (tree_at state t).pairs ≡ []
+  read_empty t held lt tree_mode none =
+      no_pairs forest t lt tree_mode (ap (λ (n : Node). n.left) (sym (agrees t held)) ∙ none)
 
   -- runs along held rows
   true_run : (h last : ℕ) (run : List ℕ) → AllHeld has (h ∷ run) → IsRun v (v h).left run last → IsRun c (c h).left run last
@@ -92,14 +99,14 @@ module _ {has : ℕ → Type 0} {v c : Nodes} {trees rows : ℕ} {mode : ℕ →
       let k = vacant_there forest room in
       (k.0, ap (λ (n : Node). n.left) (agrees trees held) ∙ k.1)
 
-  pub read_chain : (t owner count : ℕ) (chain : List ℕ) → AllHeld has (t ∷ chain) → t < trees → mode t ≡ Buffer owner count
-      → IsChain v (v t).left chain
-      → (folded owner v chain ≡ (tree_at state t).pairs) × AllOf owner v chain × (count ≡ length chain)
-  read_chain t owner count chain held lt is shows =
-      let k = chain_shows forest t owner count chain lt is (true_chain t chain agrees held shows) in
-      let same = chain_same t chain agrees held in (
-        on_folded v c owner chain same ∙ k.0,
-        on_owner c v owner chain (λ q some. sym (same q some)) k.1,
+  pub read_chain : (t owner count : ℕ) (run : List ℕ) → AllHeld has (t ∷ run) → t < trees → mode t ≡ Buffer owner count
+      → IsChain v (v t).left run
+      → (folded owner v run ≡ (tree_at state t).pairs) × AllOf owner v run × (count ≡ length run)
+  read_chain t owner count run held lt is shows =
+      let k = chain_shows forest t owner count run lt is (true_chain t run agrees held shows) in
+      let same = chain_same t run agrees held in (
+        on_folded v c owner run same ∙ k.0,
+        on_owner c v owner run (λ q some. sym (same q some)) k.1,
         k.2,
       )
 

@@ -94,14 +94,14 @@ order_ends c d cut new rows hangs =
     ∙ ((λ i. hanging (sym rows i) (sym hangs i) None None) ∙ sym (ends-hanging d new None None)) in
     subst (λ (es : List End). Looser (ends c cut None None) es) same (looser_same (ends c cut None None))
 
-numbers_of : (c : Nodes) (xs : List ℕ) → numbers (map (part_row c) xs) ≡ xs
+pub numbers_of : (c : Nodes) (xs : List ℕ) → numbers (map (part_row c) xs) ≡ xs
 numbers_of c [] = refl
 numbers_of c (x ∷ xs) = ap (λ (l : List ℕ). x ∷ l) (numbers_of c xs)
 
-abbrev row_pair : PartRow → Pair
+abbrev pub row_pair : PartRow → Pair
 row_pair r = record { owner = r.owner; range = r.range }
 
-pairs_of : (c : Nodes) (xs : List ℕ) → map row_pair (map (part_row c) xs) ≡ map (pair_of c) xs
+pub pairs_of : (c : Nodes) (xs : List ℕ) → map row_pair (map (part_row c) xs) ≡ map (pair_of c) xs
 pairs_of c [] = refl
 pairs_of c (x ∷ xs) = ap (λ (l : List Pair). pair_of c x ∷ l) (pairs_of c xs)
 

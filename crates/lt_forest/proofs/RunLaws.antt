@@ -54,11 +54,11 @@ sift_looser keep is o = sift_at keep None None is o tt
 
 -- a run of rows merged to one
 
-aside_left : (range : Interval) (es fs : List End) → AllAside range (es ++ fs) → AllAside range es
+pub aside_left : (range : Interval) (es fs : List End) → AllAside range (es ++ fs) → AllAside range es
 aside_left range [] fs a = tt
 aside_left range (e ∷ es) fs a = (a.0, aside_left range es fs a.1)
 
-aside_right : (range : Interval) (es fs : List End) → AllAside range (es ++ fs) → AllAside range fs
+pub aside_right : (range : Interval) (es fs : List End) → AllAside range (es ++ fs) → AllAside range fs
 aside_right range [] fs a = a
 aside_right range (e ∷ es) fs a = aside_right range es fs a.1
 
@@ -76,11 +76,11 @@ begins_aside range [] u y h a = absurd h
 begins_aside range (row r ∷ is) u y h a = absurd h
 begins_aside range (hang l ∷ is) u y h a = a.0
 
-not_behind : (range : Interval) (x : Bound) → IsInterval range → IsAbove x range.left → BeginsBehind x range → ⊥
+pub not_behind : (range : Interval) (x : Bound) → IsInterval range → IsAbove x range.left → BeginsBehind x range → ⊥
 not_behind range None o above b = b
 not_behind range (Some k) o above b = not_both (key_le range.left k) above (le_trans range.left range.right k o b)
 
-not_ahead : (range : Interval) (y : Bound) → IsInterval range → IsBelow y range.right → EndsBefore y range → ⊥
+pub not_ahead : (range : Interval) (y : Bound) → IsInterval range → IsBelow y range.right → EndsBefore y range → ⊥
 not_ahead range None o below b = b
 not_ahead range (Some k) o below b = not_both (key_le k range.right) below (le_trans k range.left range.right b o)
 

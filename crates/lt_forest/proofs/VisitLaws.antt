@@ -25,7 +25,7 @@ aside_app range (e ∷ es) fs a b = (a.0, aside_app range es fs a.1 b)
 
 -- All ends below a row that begins no later than the range are aside, and all behind one that ends no earlier.
 
-all_before : (c : Nodes) (cut : Cut) (x : Bound) (k : Key) (range : Interval) → IsOrdered c (bare cut) x (Some k)
+pub all_before : (c : Nodes) (cut : Cut) (x : Bound) (k : Key) (range : Interval) → IsOrdered c (bare cut) x (Some k)
     → key_le k range.left ≡ true → AllAside range (ends c cut x (Some k))
 all_before c (end zero) x k range o le = tt
 all_before c (end (suc l)) x k range o le = (inl le, tt)
@@ -36,7 +36,7 @@ all_before c (held a r b) x k range o le =
     aside_app range (ends c a x (left_end c r)) (ends c b (right_end c r) (Some k))
     (all_before c a x here range o.3 h) (all_before c b (right_end c r) k range o.4 le)
 
-all_behind : (c : Nodes) (cut : Cut) (y : Bound) (k : Key) (range : Interval) → IsOrdered c (bare cut) (Some k) y
+pub all_behind : (c : Nodes) (cut : Cut) (y : Bound) (k : Key) (range : Interval) → IsOrdered c (bare cut) (Some k) y
     → key_le range.right k ≡ true → AllAside range (ends c cut (Some k) y)
 all_behind c (end zero) y k range o le = tt
 all_behind c (end (suc l)) y k range o le = (inr le, tt)
@@ -47,7 +47,7 @@ all_behind c (held a r b) y k range o le =
     aside_app range (ends c a (Some k) (left_end c r)) (ends c b (right_end c r) y)
     (all_behind c a (left_end c r) k range o.3 le) (all_behind c b y there range o.4 h)
 
-by_test : {A : Type 0} (b : Bool) → (b ≡ true → A) → (not b ≡ true → A) → A
+pub by_test : {A : Type 0} (b : Bool) → (b ≡ true → A) → (not b ≡ true → A) → A
 by_test true f g = f refl
 by_test false f g = g refl
 

@@ -66,6 +66,7 @@ widens c link (end l) r xs ys shows e =
     record {
       wider = held (end (c r).left) r (end (c r).right);
       shows = (shows ∙ s.same, refl, refl);
+      old_hangs = e;
       hangs = λ i. sym s.none_before i ++ (c r).left ∷ (c r).right ∷ sym s.none_behind i;
       rows_before = [];
       rows_behind = [];
@@ -81,6 +82,7 @@ widens c link (held a q b) r xs ys shows e = elim (where_is (hangs_of a) (hangs_
       record {
         wider = held w.wider q b;
         shows = (shows.0, w.shows, shows.2);
+        old_hangs = e;
         hangs = ap (λ (k : List ℕ). k ++ hangs_of b) w.hangs
             ∙ (append_assoc xs (l ∷ m ∷ h.rest) (hangs_of b) ∙ ap (λ (k : List ℕ). xs ++ l ∷ m ∷ k) (sym h.behind));
         rows_before = w.rows_before;
@@ -98,6 +100,7 @@ widens c link (held a q b) r xs ys shows e = elim (where_is (hangs_of a) (hangs_
       record {
         wider = held a q w.wider;
         shows = (shows.0, shows.1, w.shows);
+        old_hangs = e;
         hangs = ap (λ (k : List ℕ). hangs_of a ++ k) w.hangs
             ∙ (sym (append_assoc (hangs_of a) h.rest (l ∷ m ∷ ys)) ∙ ap (λ (k : List ℕ). k ++ l ∷ m ∷ ys) (sym h.before));
         rows_before = in_order (bare a) ++ q ∷ w.rows_before;

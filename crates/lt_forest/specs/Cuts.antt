@@ -64,6 +64,11 @@ abbrev pub AllEnds : (End → Type 0) → List End → Type 0
 AllEnds P [] = Unit {0}
 AllEnds P (e ∷ es) = P e × AllEnds P es
 
+-- the link with its bounds is one of these
+abbrev pub HasEnd : End → List End → Type 0
+HasEnd e [] = ⊥
+HasEnd e (k ∷ ks) = (e ≡ k) ⊎ HasEnd e ks
+
 -- the same links in the same order, with bounds that are no tighter
 abbrev pub Looser : List End → List End → Type 0
 Looser [] [] = Unit {0}

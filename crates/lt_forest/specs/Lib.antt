@@ -15,6 +15,7 @@ pub mod Views
 pub mod Links
 pub mod Openings
 pub mod Widenings
+pub mod Places
 pub mod LawsOfGaps
 pub mod LawsOfParts
 pub mod LawsOfBuffers
@@ -22,5 +23,6 @@ pub mod LawsOfRows
 pub mod LawsOfOrder
 pub mod LawsOfViews
 pub mod LawsOfPlans
+pub mod LawsOfSearches
 pub mod WorkedTrees
 pub mod WorkedBuffer

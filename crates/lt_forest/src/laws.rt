@@ -6,6 +6,7 @@ ghost use Rattle.lt_forest.specs.LawsOfRows.{RowsAddUp, VacantIsThere, OpeningIs
 ghost use Rattle.lt_forest.specs.LawsOfOrder.{EndsAreHanging, EndsAreBetween, SameOrderKeeps, LeavingOutLoosens, MergingLoosens, PartWidens, PlacedShows, MiddleDecides, OwnBecomeOne};
 ghost use Rattle.lt_forest.specs.LawsOfViews.{TopIsRead, LeftIsRead, RightIsRead, ReadLinksNameFurther, NoneIsReadTwice, NoneIsReadBack, PoolIsReadApart, VacantIsRead, HeldPartShowsPairs, HeldPartHasAll, HeldWholeShowsAll, HeldChainShowsBuffer, PlanServesDeed, PlanServesLayout, PlanServesReplacement, PlanBegins, PlanAppends, PlanEndsBuffer, PlanDropsBuffer, ReadRunIsFurther, ReadPoolIsFurther, HeldPartIsFurther};
 ghost use Rattle.lt_forest.specs.LawsOfPlans.{OtherAnchorsStay, PlanKeepsAnchors, FirstKeepsAnchors, EndKeepsAnchors, DropKeepsAnchors, PartGapIsRead, TopKeepsGap};
+ghost use Rattle.lt_forest.specs.LawsOfSearches.{PartIsLawful, HeldPartIsLawful, LawfulPartAscends, LawfulListSplits, WidenedIsPart, WidenedIsClosed, HeldWidenedIsPart, HeldWidenedIsClosed, NoneHangsBetween, NoneHangsThere, ReachedAreNotAside, ClosedIsVisited, HangsNameOthers, HeldHangsNameOthers, CutRowsAreNamed, HeldRowsAreNamed, GapRowsTreeMode, NoneOfPoolIsReadBack, EmptyTreeIsRead};
 
 /// Every row of a search tree has one gap, and a child's gap is its parent's, cut at the parent's range.
 pub fn gaps_of_rows()
@@ -203,4 +204,47 @@ pub fn anchors_of_other_trees()
 pub fn gaps_of_a_new_part()
     ensures read { PartGapIsRead }
     ensures top { TopKeepsGap }
+{}
+
+/// The rows of a part ascend, and so do those of a part that a pass holds, also as one list with what hangs. A lawful list splits
+/// at any range.
+pub fn rows_of_a_part()
+    ensures part { PartIsLawful }
+    ensures held { HeldPartIsLawful }
+    ensures ascend { LawfulPartAscends }
+    ensures splits { LawfulListSplits }
+{}
+
+/// A part that is widened is a part, and a closed one stays closed, also as a pass sees it that holds the row taken into it.
+pub fn widened_parts()
+    ensures part { WidenedIsPart }
+    ensures closed { WidenedIsClosed }
+    ensures held_part { HeldWidenedIsPart }
+    ensures held_closed { HeldWidenedIsClosed }
+{}
+
+/// In a closed part nothing hangs between two rows that overlap the range, and nothing where the range itself has its place. A
+/// search reaches exactly the hangs that aren't aside: so it reaches none of a closed part.
+pub fn hangs_of_closed_parts()
+    ensures between { NoneHangsBetween }
+    ensures there { NoneHangsThere }
+    ensures reached { ReachedAreNotAside }
+    ensures visited { ClosedIsVisited }
+{}
+
+/// What hangs below a part is a further row that isn't of the part, and each row of a part but its uppermost is named by a link of
+/// a row of that part.
+pub fn rows_that_are_named()
+    ensures hangs { HangsNameOthers }
+    ensures held_hangs { HeldHangsNameOthers }
+    ensures rows { CutRowsAreNamed }
+    ensures held_rows { HeldRowsAreNamed }
+{}
+
+/// A row that has a gap stands in a tree in Tree mode. No held row of the pool leads back to itself along held rows, and a tree
+/// whose held anchor leads nowhere has no pairs.
+pub fn trees_and_pools_that_are_read()
+    ensures gap { GapRowsTreeMode }
+    ensures pool { NoneOfPoolIsReadBack }
+    ensures empty { EmptyTreeIsRead }
 {}
