@@ -83,7 +83,7 @@ none_there c cut range ahead (suc l) behind o aside place above below =
 
 -- a row is taken into the part
 
-end_aside : (range : Interval) (l : ℕ) (x y : Bound) → EndsBefore y range ⊎ BeginsBehind x range → AllAside range (end_if l x y)
+pub end_aside : (range : Interval) (l : ℕ) (x y : Bound) → EndsBefore y range ⊎ BeginsBehind x range → AllAside range (end_if l x y)
 end_aside range zero x y a = tt
 end_aside range (suc l) x y a = (a, tt)
 

@@ -46,6 +46,10 @@ pub mod PlansInView
 pub mod BuffersInView
 pub mod ReadOffRows
 pub mod WidenedParts
+-- parts beside a held row, and layouts
+pub mod SideParts
+pub mod SideDeeds
+pub mod SameOrder
 -- each public law by its name
 pub mod PublicLaws
 -- worked

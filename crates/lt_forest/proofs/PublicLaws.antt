@@ -1,5 +1,5 @@
 -- Each public law, to be cited by its name.
-use Rattle.std.proofs.Common.{refl, subst, sym}
+use Rattle.std.proofs.Common.{refl, subst, sym, [], ◌∷◌}
 use Rattle.lt_forest.specs.LawsOfGaps.{RowsHaveOneGap, LeftChildsGap, RightChildsGap, SeenIsWithin, TopIsSeen, LeftIsSeen, RightIsSeen}
 use Rattle.lt_forest.specs.LawsOfParts.{TreesAreOrdered, ReplacedIsInOrder, VisitLeavesOutNone, VisitedIsClosed, ClosedPartHasAll, PartShowsPairs, WholePartShowsAll, EmptyTreeHasNone, PartIsReplaced, PartIsLaidForDeed, PartIsLaidAgain, TopRowStays}
 use Rattle.lt_forest.specs.LawsOfBuffers.{ChainShowsBuffer, FrontIsGranted, BufferBegins, BufferGrows, BufferEnds, BufferIsDropped, OwnerIsAlone}
@@ -33,6 +33,7 @@ use Rattle.lt_forest.specs.Views.{IsIn}
 use Rattle.lt_forest.specs.Trees.{in_order}
 use Rattle.lt_forest.specs.Cuts.{bare}
 use Rattle.lt_forest.specs.LawsOfSearches.{PartIsLawful, HeldPartIsLawful, LawfulPartAscends, LawfulListSplits, WidenedIsPart, WidenedIsClosed, HeldWidenedIsPart, HeldWidenedIsClosed, NoneHangsBetween, NoneHangsThere, ReachedAreNotAside, ClosedIsVisited, HangsNameOthers, HeldHangsNameOthers, CutRowsAreNamed, HeldRowsAreNamed, GapRowsTreeMode, NoneOfPoolIsReadBack, EmptyTreeIsRead}
+use Rattle.lt_forest.specs.LawsOfSides.{SideIsPart, HeldSideIsPart, SideAddsTheRow, SideIsClosed, SideLoosens, SideHasSameRows, SideDecides, SideShowsGranted, SideShowsHeld, SideShowsFree, SideShowsWho, SameOrderLays, TurnLaysAtAnchor, TurnLaysAtRow}
 use Rattle.lt_seq.specs.Pairs.{IsLawful}
 use Rattle.lt_forest.proofs.RowsAscend.{items_ascend}
 use Rattle.lt_forest.proofs.Splits.{splits}
@@ -40,6 +41,9 @@ use Rattle.lt_forest.proofs.WidenedParts.{wider_part, wider_closed, wider_held, 
 use Rattle.lt_forest.proofs.HangsAside.{none_between, none_there}
 use Rattle.lt_forest.proofs.Reached.{reached_exactly, closed_visited}
 use Rattle.lt_forest.proofs.NamedInCuts.{hang_names, names_in}
+use Rattle.lt_forest.proofs.SideParts.{side_part, side_held, adds_row, side_closed, side_looser, side_rows, side_decides as decided_beside}
+use Rattle.lt_forest.proofs.SideDeeds.{side_ask, side_free, side_who}
+use Rattle.lt_forest.proofs.SameOrder.{same_order, turned_at_anchor, turned_at_row}
 
 -- gaps_of_rows
 pub rows_have_one_gap : RowsHaveOneGap
@@ -470,3 +474,57 @@ none_of_pool_is_read_back has v trees rows c mode state f q forest agrees =
 pub empty_tree_is_read : EmptyTreeIsRead
 empty_tree_is_read has v trees rows c mode state f t forest agrees =
     read_empty forest agrees t
+
+-- parts_beside_a_row
+pub side_is_part : SideIsPart
+side_is_part trees rows c mode state f t s g part =
+    side_part s g part
+
+pub held_side_is_part : HeldSideIsPart
+held_side_is_part has v t s g part =
+    side_held s g part
+
+pub side_adds_the_row : SideAddsTheRow
+side_adds_the_row = adds_row
+
+pub side_is_closed : SideIsClosed
+side_is_closed = side_closed
+
+pub side_loosens : SideLoosens
+side_loosens = side_looser
+
+pub side_has_same_rows : SideHasSameRows
+side_has_same_rows = side_rows
+
+-- deeds_beside_a_row
+pub side_decides : SideDecides
+side_decides = decided_beside
+
+pub side_shows_granted : SideShowsGranted
+side_shows_granted setting txn tree score range c d s part new lawful interval on none pairs same =
+    side_ask setting txn tree score range c d s part new lawful interval on same [] none pairs
+
+pub side_shows_held : SideShowsHeld
+side_shows_held setting txn tree score range c d s part new o os lawful interval on owners pairs same =
+    side_ask setting txn tree score range c d s part new lawful interval on same (o ∷ os) owners pairs
+
+pub side_shows_free : SideShowsFree
+side_shows_free setting txn tree score range first c d s part new lawful interval on pairs same =
+    side_free setting txn tree score range c d s part new lawful interval on same first pairs
+
+pub side_shows_who : SideShowsWho
+side_shows_who setting txn tree score named range c d s part new lawful interval on pairs same =
+    side_who setting txn tree score range c d s part new lawful interval on same named pairs
+
+-- plans_for_layouts
+pub same_order_lays : SameOrderLays
+same_order_lays has planned trees t top v v' cut new =
+    same_order
+
+pub turn_lays_at_anchor : TurnLaysAtAnchor
+turn_lays_at_anchor has planned trees t v v' old new old_link new_link turn held all holds holds' same is is' =
+    turned_at_anchor v v' turn holds holds' same held all is is'
+
+pub turn_lays_at_row : TurnLaysAtRow
+turn_lays_at_row has planned trees t s g v v' old new old_link new_link turn held all holds holds' same is is' =
+    turned_at_row v v' turn holds holds' same s g held all is is'

@@ -16,6 +16,7 @@ pub mod Links
 pub mod Openings
 pub mod Widenings
 pub mod Places
+pub mod Sides
 pub mod LawsOfGaps
 pub mod LawsOfParts
 pub mod LawsOfBuffers
@@ -24,5 +25,6 @@ pub mod LawsOfOrder
 pub mod LawsOfViews
 pub mod LawsOfPlans
 pub mod LawsOfSearches
+pub mod LawsOfSides
 pub mod WorkedTrees
 pub mod WorkedBuffer

@@ -7,6 +7,7 @@ ghost use Rattle.lt_forest.specs.LawsOfOrder.{EndsAreHanging, EndsAreBetween, Sa
 ghost use Rattle.lt_forest.specs.LawsOfViews.{TopIsRead, LeftIsRead, RightIsRead, ReadLinksNameFurther, NoneIsReadTwice, NoneIsReadBack, PoolIsReadApart, VacantIsRead, HeldPartShowsPairs, HeldPartHasAll, HeldWholeShowsAll, HeldChainShowsBuffer, PlanServesDeed, PlanServesLayout, PlanServesReplacement, PlanBegins, PlanAppends, PlanEndsBuffer, PlanDropsBuffer, ReadRunIsFurther, ReadPoolIsFurther, HeldPartIsFurther};
 ghost use Rattle.lt_forest.specs.LawsOfPlans.{OtherAnchorsStay, PlanKeepsAnchors, FirstKeepsAnchors, EndKeepsAnchors, DropKeepsAnchors, PartGapIsRead, TopKeepsGap};
 ghost use Rattle.lt_forest.specs.LawsOfSearches.{PartIsLawful, HeldPartIsLawful, LawfulPartAscends, LawfulListSplits, WidenedIsPart, WidenedIsClosed, HeldWidenedIsPart, HeldWidenedIsClosed, NoneHangsBetween, NoneHangsThere, ReachedAreNotAside, ClosedIsVisited, HangsNameOthers, HeldHangsNameOthers, CutRowsAreNamed, HeldRowsAreNamed, GapRowsTreeMode, NoneOfPoolIsReadBack, EmptyTreeIsRead};
+ghost use Rattle.lt_forest.specs.LawsOfSides.{SideIsPart, HeldSideIsPart, SideAddsTheRow, SideIsClosed, SideLoosens, SideHasSameRows, SideDecides, SideShowsGranted, SideShowsHeld, SideShowsFree, SideShowsWho, SameOrderLays, TurnLaysAtAnchor, TurnLaysAtRow};
 
 /// Every row of a search tree has one gap, and a child's gap is its parent's, cut at the parent's range.
 pub fn gaps_of_rows()
@@ -247,4 +248,31 @@ pub fn trees_and_pools_that_are_read()
     ensures gap { GapRowsTreeMode }
     ensures pool { NoneOfPoolIsReadBack }
     ensures empty { EmptyTreeIsRead }
+{}
+
+/// What hangs on one side of a row with a gap makes a part with that row, also as a pass sees it. The part with the row has the row
+/// more in key order, and what the part without it says of hangs, bounds and rows holds of it.
+pub fn parts_beside_a_row()
+    ensures part { SideIsPart }
+    ensures held { HeldSideIsPart }
+    ensures order { SideAddsTheRow }
+    ensures closed { SideIsClosed }
+    ensures loose { SideLoosens }
+    ensures rows { SideHasSameRows }
+{}
+
+/// What an ask, a free or a question on one side of a row makes of the part with the row is decided by the part without it.
+pub fn deeds_beside_a_row()
+    ensures decides { SideDecides }
+    ensures granted { SideShowsGranted }
+    ensures held { SideShowsHeld }
+    ensures free { SideShowsFree }
+    ensures who { SideShowsWho }
+{}
+
+/// A plan that leaves a part's rows and hangs in their order, as one that turns two rows, meets what a change of layout asks.
+pub fn plans_for_layouts()
+    ensures order { SameOrderLays }
+    ensures anchor { TurnLaysAtAnchor }
+    ensures row { TurnLaysAtRow }
 {}
