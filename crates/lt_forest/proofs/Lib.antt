@@ -54,4 +54,5 @@ pub mod SameOrder
 pub mod PublicLaws
 -- worked
 pub mod WorkedTrees
+pub mod WorkedFirstFree
 pub mod WorkedBuffer

@@ -1,5 +1,5 @@
 -- The worked plans.
-use Rattle.std.proofs.Common.{◌≡◌, inl, inr, ℕ, zero, suc, ◌<◌, List, [], ◌∷◌, map, Bool, true, refl, sym, ap, subst, arith, lit<, ne_eqb, eq-eqb}
+use Rattle.std.proofs.Common.{◌≡◌, inl, inr, ℕ, zero, suc, ◌<◌, List, [], ◌∷◌, ◌++◌, map, Bool, true, refl, sym, ap, subst, arith, lit<, ne_eqb, eq-eqb}
 use Rattle.std.specs.Prelude.{codes, nat_eq, Some, None, if◌then◌else◌}
 use mathlib.Core.Logic.{dite}
 use native.Mathlib.Decide.{ℕ_discrete}
@@ -8,19 +8,21 @@ use Rattle.lt_ranges.specs.Key.{key_le}
 use Rattle.lt_ranges.specs.Interval.{Interval, whole}
 use Rattle.lt_seq.specs.declared.event.Pair.{Pair}
 use Rattle.lt_seq.specs.declared.event.Reply.TheVariants.{Granted}
+use Rattle.lt_seq.specs.declared.event.Event.{Event}
 use Rattle.lt_seq.specs.declared.event.Deed.{Deed}
 use Rattle.lt_seq.specs.declared.event.Deed.TheVariants.{Ask, Free, Who, Join}
 use Rattle.lt_seq.specs.declared.event.Mode.TheVariants.{Tree as TreeMode}
 use Rattle.lt_seq.specs.Sound.{AllSound}
 use Rattle.lt_seq.specs.History.{after, IsLegal}
-use Rattle.lt_seq.specs.Table.{tree_at}
+use Rattle.lt_seq.specs.Table.{TreeState, tree_at}
 use Rattle.lt_seq.proofs.LawfulLaws.{sound_history}
 use Rattle.lt_forest.specs.Counts.{one_if, times}
 use Rattle.lt_forest.specs.Trees.{Node, Nodes}
 use Rattle.lt_forest.specs.Cuts.{Cut, end, held, Shows}
+use Rattle.lt_forest.specs.Widenings.{Widens}
 use Rattle.lt_forest.specs.Forest.{search_tree, Represents, stands, IsForest, ChangesOnly}
 use Rattle.lt_forest.specs.Plans.{Top, from_anchor, from_row, IsInGap, IsPart, IsClosedFor, Lays, ShowsDeed}
-use Rattle.lt_forest.specs.WorkedTrees.{from_to, at, holds, leads, one_tree, four, four_tree, four_forest, tree_modes, four_state, four_events, with_images, WorkedStart, WorkedInsertion, WorkedMerge, WorkedRemoval, WorkedJoin, WorkedQuestion, WorkedRotation, WorkedReplacement}
+use Rattle.lt_forest.specs.WorkedTrees.{from_to, at, pair, holds, leads, one_tree, four, four_tree, four_forest, tree_modes, four_state, four_events, with_images, insertion_images, five, five_state, modes_at, table_at, WorkedStart, WorkedInsertion, WorkedMerge, WorkedRemoval, WorkedJoin, WorkedQuestion, WorkedRotation, WorkedReplacement}
 use Rattle.lt_forest.proofs.VisitLaws.{visited_closed}
 use Rattle.lt_forest.proofs.WidenLaws.{widens}
 use Rattle.lt_forest.proofs.RowsAndHangs.{order_ends, order_rows, order_pairs}
@@ -70,21 +72,27 @@ four_once (suc (suc (suc (suc (suc (suc (suc zero))))))) lo hi = refl
 four_once (suc (suc (suc (suc (suc (suc (suc (suc zero)))))))) lo hi = refl
 four_once (suc (suc (suc (suc (suc (suc (suc (suc (suc r))))))))) lo hi = absurd (omega arith)
 
-only_zero : (P : ℕ → Type 0) → P 0 → (t : ℕ) → t < 1 → P t
+pub only_zero : (P : ℕ → Type 0) → P 0 → (t : ℕ) → t < 1 → P t
 only_zero P at zero lt = at
 only_zero P at (suc t) lt = absurd (omega arith)
 
-four_is_forest : IsForest 1 9 four tree_modes four_state four_forest
-four_is_forest = record {
+abbrev pub four_pairs : List Pair
+four_pairs = pair 1 (at (codes "f")) ∷ pair 1 (at (codes "m")) ∷ pair 1 (at (codes "t")) ∷ pair 2 (at (codes "x")) ∷ []
+
+pub four_at : (score : ℕ) → IsForest 1 9 four (modes_at score) (table_at score four_pairs) four_forest
+four_at score = record {
   size = refl;
-  grown = only_zero (λ t. Represents four (four t).left (search_tree four_tree) (tree_at four_state t).pairs (TreeMode 100))
+  grown = only_zero (λ t. Represents four (four t).left (search_tree four_tree) (tree_at (table_at score four_pairs) t).pairs (TreeMode score))
       ((refl, (refl, refl, refl), (refl, refl, (refl, refl, refl))), refl);
-  modes = only_zero (λ t. TreeMode 100 ≡ (tree_at four_state t).mode) refl;
+  modes = only_zero (λ t. TreeMode score ≡ (tree_at (table_at score four_pairs) t).mode) refl;
   vacant = (refl, (refl, (refl, refl)));
   once = four_once;
   further = λ r some. among r (2 ∷ 4 ∷ 6 ∷ 5 ∷ 3 ∷ 7 ∷ 8 ∷ []) four_further (omega arith);
   many = refl;
 }
+
+four_is_forest : IsForest 1 9 four tree_modes four_state four_forest
+four_is_forest = four_at 100
 
 -- the history that leads there is legal, so its table is sound
 
@@ -134,7 +142,7 @@ unfolding key_le
 insertion =
     let cut : Cut = held (end 0) 6 (end 6) in
     let new : Cut = held (held (end 0) 3 (end 0)) 6 (end 6) in
-    let images : List (ℕ × Node) = (6, holds 1 (at (codes "t")) 4 6) ∷ (3, holds 2 (at (codes "p")) 0 0) ∷ (1, leads 8) ∷ [] in
+    let images : List (ℕ × Node) = insertion_images in
     let top : Top = from_row 6 (Some (Bytes (codes "m")), None) in
     let deed : Deed = Ask 0 (at (codes "p")) Granted in
     let lays : Lays 1 0 top four (with_images four images) cut new (3 ∷ []) [] = record {
@@ -191,25 +199,58 @@ merge =
       replies = deed_replies part lays closed shows (λ s lt ne. refl);
     }
 
+-- the table after the insertion
+
+five_events : List Event
+five_events = four_events ++ record { pass = 0; txn = 2; deed = Ask 0 (at (codes "p")) Granted } ∷ []
+
+five_sound : AllSound five_state
+unfolding key_le five_events
+five_sound =
+    let legal : IsLegal one_tree five_events = (
+      record { pass = lit< tt; tree = lit< tt; question = refl; replies = refl },
+      (
+        record { pass = lit< tt; tree = lit< tt; question = refl; replies = refl },
+        (
+          record { pass = lit< tt; tree = lit< tt; question = refl; replies = refl },
+          (
+            record { pass = lit< tt; tree = lit< tt; question = refl; replies = refl },
+            (record { pass = lit< tt; tree = lit< tt; question = refl; replies = refl }, tt),
+          ),
+        ),
+      ),
+    ) in
+    let there : after one_tree five_events ≡ five_state = refl in
+    subst AllSound there (sound_history one_tree five_events legal)
+
 pub removal : WorkedRemoval
 unfolding key_le
 removal =
+    let start = insertion.relaid.becomes in
     let narrow : Cut = held (end 3) 4 (end 7) in
-    let cut : Cut = held (end 3) 4 (held (end 0) 6 (end 6)) in
-    let new : Cut = held (end 3) 6 (end 6) in
-    let images : List (ℕ × Node) = (0, leads 7) ∷ (6, holds 1 (at (codes "t")) 3 6) ∷ (4, leads 4) ∷ (1, leads 5) ∷ [] in
+    let once : Widens five 5 narrow 6 (3 ∷ []) [] = widens five 5 narrow 6 (3 ∷ []) [] (refl, refl, refl) refl in
+    let cut : Cut = held (end 3) 4 (held (held (end 0) 3 (end 0)) 6 (end 6)) in
+    let new : Cut = held (held (end 3) 3 (end 0)) 6 (end 6) in
+    let images : List (ℕ × Node) = (0, leads 7) ∷ (3, holds 2 (at (codes "p")) 3 0) ∷ (4, leads 8) ∷ (1, leads 5) ∷ [] in
     let deed : Deed = Free 0 (at (codes "m")) true 1 in
-    let part : IsPart 1 9 four tree_modes four_state four_forest 0 from_anchor cut = four_part cut (refl, refl, (refl, refl, refl)) in
-    let lays : Lays 1 0 from_anchor four (with_images four images) cut new [] (4 ∷ []) = record {
-      shows = (refl, refl, refl);
+    let part : IsPart 1 9 five tree_modes five_state start.next 0 from_anchor cut = record {
+      forest = start.forest;
+      sound = five_sound;
+      tree = lit< tt;
+      tree_mode = tt;
+      seen = tt;
+      shows = (refl, refl, (refl, (refl, refl, refl), refl));
+    } in
+    let lays : Lays 1 0 from_anchor five (with_images five images) cut new [] (4 ∷ []) = record {
+      shows = (refl, (refl, refl, refl), refl);
       loose = (refl, tt, refl, (refl, refl, tt, tt));
-      pool = record { rest = 4; takes = refl; gives = (refl, refl) };
+      pool = record { rest = 8; takes = refl; gives = (refl, refl) };
       rows = record { each = λ q. omega arith; all = refl };
       link = tt;
-      others = λ r none. images_only four images r (omega arith);
+      others = λ r none. images_only five images r (omega arith);
     } in
-    let closed : IsClosedFor (at (codes "m")) from_anchor four cut = record { in_gap = tt; aside = (inl refl, (inr refl, tt)) } in
-    let shows : ShowsDeed one_tree 1 deed four (with_images four images) cut new (TreeMode 100) (TreeMode 100) = record {
+    let closed : IsClosedFor (at (codes "m")) from_anchor five cut = record { in_gap = tt; aside = (inl refl, (inr refl, tt)) } in
+    let shows : ShowsDeed one_tree 1 deed five (with_images five images) cut new (TreeMode 100) (TreeMode 100) = record {
       was_tree = tt;
       is_tree = tt;
       pairs = refl;
@@ -218,11 +259,12 @@ removal =
       question = refl;
     } in
     record {
-      widened = widens four 5 narrow 6 (3 ∷ []) [] (refl, refl, refl) refl;
-      works = record {
-        relaid = event_relaid part lays closed shows (λ s lt ne. refl);
-        replies = deed_replies part lays closed shows (λ s lt ne. refl);
-      };
+      forest = start.next;
+      is = start.forest;
+      once = once;
+      twice = widens five 5 once.wider 3 (3 ∷ []) (6 ∷ []) once.shows once.hangs;
+      relaid = event_relaid part lays closed shows (λ s lt ne. refl);
+      replies = deed_replies part lays closed shows (λ s lt ne. refl);
     }
 
 pub join : WorkedJoin

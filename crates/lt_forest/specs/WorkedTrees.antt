@@ -6,7 +6,7 @@ use Rattle.lt_ranges.specs.Interval.{Interval, whole}
 use Rattle.lt_seq.specs.declared.event.Pair.{Pair}
 use Rattle.lt_seq.specs.declared.event.Mode.{Mode}
 use Rattle.lt_seq.specs.declared.event.Mode.TheVariants.{Tree as TreeMode}
-use Rattle.lt_seq.specs.declared.event.Reply.TheVariants.{Granted}
+use Rattle.lt_seq.specs.declared.event.Reply.TheVariants.{Granted, Buffered}
 use Rattle.lt_seq.specs.declared.event.Deed.{Deed}
 use Rattle.lt_seq.specs.declared.event.Deed.TheVariants.{Ask, Free, Who, Join}
 use Rattle.lt_seq.specs.declared.event.Event.{Event}
@@ -88,13 +88,16 @@ pub record Works (txn : ℕ) (deed : Deed) (top : Top) (cut new : Cut) (images :
   pub relaid : Relaid 1 9 four (with_images four images) tree_modes tree_modes four_state (table_of after) four_forest 0 top cut new
   pub replies : replied one_tree txn deed (tree_at four_state 0) ≡ deed
 
+abbrev pub insertion_images : List (ℕ × Node)
+insertion_images = (6, holds 1 (at (codes "t")) 4 6) ∷ (3, holds 2 (at (codes "p")) 0 0) ∷ (1, leads 8) ∷ []
+
 -- Transaction 2 asks for "p". Row 6 stays held, with the gap above "m"; row 3 comes from the pool as its left child.
 abbrev pub WorkedInsertion : Type 0
 WorkedInsertion =
     Works 2 (Ask 0 (at (codes "p")) Granted) (from_row 6 (Some (Bytes (codes "m")), None))
     (held (end 0) 6 (end 6))
     (held (held (end 0) 3 (end 0)) 6 (end 6))
-    ((6, holds 1 (at (codes "t")) 4 6) ∷ (3, holds 2 (at (codes "p")) 0 0) ∷ (1, leads 8) ∷ [])
+    insertion_images
     (pair 1 (at (codes "f")) ∷ pair 1 (at (codes "m")) ∷ pair 2 (at (codes "p")) ∷ pair 1 (at (codes "t")) ∷ pair 2 (at (codes "x")) ∷ [])
 
 -- Transaction 1 asks for "f" to "t": its three ranges become one, in row 4, and rows 2 and 6 go to the pool.
@@ -106,14 +109,29 @@ WorkedMerge =
     ((4, holds 1 (from_to (codes "f") (codes "t")) 0 6) ∷ (2, leads 7) ∷ (6, leads 4) ∷ (1, leads 3) ∷ [])
     (pair 1 (from_to (codes "f") (codes "t")) ∷ pair 2 (at (codes "x")) ∷ [])
 
--- Transaction 1 frees "m". Two links hang below row 4, so that row 6 is taken into the part and hangs in its place.
+-- The table after the insertion.
+abbrev pub five : Nodes
+five = with_images four insertion_images
+
+abbrev pub five_state : List TreeState
+five_state = table_of
+    (pair 1 (at (codes "f")) ∷ pair 1 (at (codes "m")) ∷ pair 2 (at (codes "p")) ∷ pair 1 (at (codes "t")) ∷ pair 2 (at (codes "x")) ∷ [])
+
+-- Transaction 1 frees "m" there. Two links hang below row 4, so that row 6 is taken into the part. Its left link leads on, to row
+-- 3, which is taken too: it has no left link, so that what hung to the left of row 4 hangs there.
 pub record WorkedRemoval : Type 0 where
-  pub widened : Widens four 5 (held (end 3) 4 (end 7)) 6 (3 ∷ []) []
-  pub works : Works 1 (Free 0 (at (codes "m")) true 1) from_anchor
-      (held (end 3) 4 (held (end 0) 6 (end 6)))
-      (held (end 3) 6 (end 6))
-      ((0, leads 7) ∷ (6, holds 1 (at (codes "t")) 3 6) ∷ (4, leads 4) ∷ (1, leads 5) ∷ [])
-      (pair 1 (at (codes "f")) ∷ pair 1 (at (codes "t")) ∷ pair 2 (at (codes "x")) ∷ [])
+  pub forest : Forest
+  pub is : IsForest 1 9 five tree_modes five_state forest
+  pub once : Widens five 5 (held (end 3) 4 (end 7)) 6 (3 ∷ []) []
+  pub twice : Widens five 5 once.wider 3 (3 ∷ []) (6 ∷ [])
+  pub relaid : Relaid 1 9 five
+      (with_images five ((0, leads 7) ∷ (3, holds 2 (at (codes "p")) 3 0) ∷ (4, leads 8) ∷ (1, leads 5) ∷ []))
+      tree_modes tree_modes five_state
+      (table_of (pair 1 (at (codes "f")) ∷ pair 2 (at (codes "p")) ∷ pair 1 (at (codes "t")) ∷ pair 2 (at (codes "x")) ∷ []))
+      forest 0 from_anchor
+      (held (end 3) 4 (held (held (end 0) 3 (end 0)) 6 (end 6)))
+      (held (held (end 3) 3 (end 0)) 6 (end 6))
+  pub replies : replied one_tree 1 (Free 0 (at (codes "m")) true 1) (tree_at five_state 0) ≡ Free 0 (at (codes "m")) true 1
 
 -- The tree is joined: the three ranges of transaction 1 become one.
 abbrev pub WorkedJoin : Type 0
@@ -148,3 +166,38 @@ abbrev pub WorkedReplacement : Type 0
 WorkedReplacement =
     ReplacedPart 1 9 four (with_images four ((6, holds 3 (from_to (codes "p") (codes "q")) 0 6) ∷ [])) tree_modes four_state four_forest 0
     (from_row 6 (Some (Bytes (codes "m")), None)) (held (end 0) 6 (end 6)) (held (end 0) 6 (end 6))
+
+-- The same rows, with the score 0: a history leads there in which a buffer of transaction 1 ended.
+abbrev pub one_buffer : Setting
+one_buffer = record { plan = record { trees = 1; limit = 6; buffer = 1; passes = 1; first = 0 }; marks = [] }
+
+abbrev pub modes_at : ℕ → ℕ → Mode
+modes_at score t = TreeMode score
+
+abbrev pub table_at : ℕ → List Pair → List TreeState
+table_at score pairs = record { pairs = pairs; mode = TreeMode score } ∷ []
+
+abbrev pub low_state : List TreeState
+low_state = table_at 0
+    (pair 1 (at (codes "f")) ∷ pair 1 (at (codes "m")) ∷ pair 1 (at (codes "t")) ∷ pair 2 (at (codes "x")) ∷ [])
+
+abbrev pub low_events : List Event
+low_events =
+    record { pass = 0; txn = 1; deed = Ask 0 (at (codes "m")) Buffered }
+    ∷ record { pass = 0; txn = 2; deed = Ask 0 (at (codes "x")) Granted }
+    ∷ record { pass = 0; txn = 1; deed = Ask 0 (at (codes "f")) Granted }
+    ∷ record { pass = 0; txn = 1; deed = Ask 0 (at (codes "t")) Granted } ∷ []
+
+-- Transaction 2 frees "x" there, first of a release. The part hangs from row 6, with row 4 above it let go, and the anchor is held
+-- beside it: the anchor's link stays, and its score rises by one.
+pub record WorkedFirstFree : Type 0 where
+  pub legal : IsLegal one_buffer low_events
+  pub leads_there : after one_buffer low_events ≡ low_state
+  pub relaid : Relaid 1 9 four
+      (with_images four ((0, leads 5) ∷ (6, holds 1 (at (codes "t")) 0 0) ∷ (5, leads 4) ∷ (1, leads 6) ∷ []))
+      (modes_at 0) (modes_at 1) low_state
+      (table_at 1 (pair 1 (at (codes "f")) ∷ pair 1 (at (codes "m")) ∷ pair 1 (at (codes "t")) ∷ []))
+      four_forest 0 (from_row 6 (Some (Bytes (codes "m")), None))
+      (held (end 0) 6 (held (end 0) 5 (end 0)))
+      (held (end 0) 6 (end 0))
+  pub replies : replied one_buffer 2 (Free 0 (at (codes "x")) true 1) (tree_at low_state 0) ≡ Free 0 (at (codes "x")) true 1

@@ -1,4 +1,5 @@
 use Rattle.lt_forest.proofs.WorkedTrees.{start, insertion, merge, removal, join, question, rotation, replacement}
+use Rattle.lt_forest.proofs.WorkedFirstFree.{first_free}
 use Rattle.lt_forest.proofs.worked.worked_trees.Goals as goal
 
 pub returns : goal.returns
@@ -11,4 +12,5 @@ returns c = record {
   question = question;
   rotation = rotation;
   replacement = replacement;
+  first_free = first_free;
 }
