@@ -46,10 +46,12 @@ pub mod PlansInView
 pub mod BuffersInView
 pub mod ReadOffRows
 pub mod WidenedParts
+pub mod GivenRows
 -- parts beside a held row, and layouts
 pub mod SideParts
 pub mod SideDeeds
 pub mod SameOrder
+pub mod MergedRuns
 -- each public law by its name
 pub mod PublicLaws
 -- worked

@@ -85,7 +85,7 @@ with_pair-before new (y ∷ ys) zs high =
 
 -- the left end of a hull of many is at least a key that is at most each, and at most the first
 
-fold_least : (k : Key) (range : Interval) (ms : List Pair) → key_le k range.left ≡ true
+pub fold_least : (k : Key) (range : Interval) (ms : List Pair) → key_le k range.left ≡ true
     → ((p : Pair) → Has p ms → key_le k p.range.left ≡ true) → key_le k (fold (λ r p. hull r p.range) range ms).left ≡ true
 fold_least k range [] low all = low
 fold_least k range (m ∷ ms) low all =

@@ -4,9 +4,9 @@ use Rattle.lt_forest.specs.LawsOfGaps.{RowsHaveOneGap, LeftChildsGap, RightChild
 use Rattle.lt_forest.specs.LawsOfParts.{TreesAreOrdered, ReplacedIsInOrder, VisitLeavesOutNone, VisitedIsClosed, ClosedPartHasAll, PartShowsPairs, WholePartShowsAll, EmptyTreeHasNone, PartIsReplaced, PartIsLaidForDeed, PartIsLaidAgain, TopRowStays}
 use Rattle.lt_forest.specs.LawsOfBuffers.{ChainShowsBuffer, FrontIsGranted, BufferBegins, BufferGrows, BufferEnds, BufferIsDropped, OwnerIsAlone}
 use Rattle.lt_forest.specs.LawsOfRows.{RowsAddUp, VacantIsThere, OpeningIsForest, LinksNameFurther, NoneIsNamedTwice, NoneLeadsBack, NoneOfPoolLeadsBack, PoolIsApart, GapRowsAreLinked, PartRowsAreLinked, RunRowsAreLinked, PoolRowsAreLinked, TreeRowsAreFurther, PoolRowsAreFurther, RunRowsAreFurther, TakenRowsAreFurther, PartRowsAreFurther, ForestReadsItsRows}
-use Rattle.lt_forest.specs.LawsOfOrder.{EndsAreHanging, EndsAreBetween, SameOrderKeeps, LeavingOutLoosens, MergingLoosens, PartWidens, PlacedShows, MiddleDecides, OwnBecomeOne}
+use Rattle.lt_forest.specs.LawsOfOrder.{EndsAreHanging, EndsAreBetween, SameOrderKeeps, LeavingOutLoosens, MergingLoosens, PartWidens, PlacedShows, MiddleDecides, OwnBecomeOne, SpanMayMerge, MergedRunLoosens, PutInLoosens, RowsShowPairs}
 use Rattle.lt_forest.specs.LawsOfViews.{TopIsRead, LeftIsRead, RightIsRead, ReadLinksNameFurther, NoneIsReadTwice, NoneIsReadBack, PoolIsReadApart, VacantIsRead, HeldPartShowsPairs, HeldPartHasAll, HeldWholeShowsAll, HeldChainShowsBuffer, PlanServesDeed, PlanServesLayout, PlanServesReplacement, PlanBegins, PlanAppends, PlanEndsBuffer, PlanDropsBuffer, ReadRunIsFurther, ReadPoolIsFurther, HeldPartIsFurther}
-use Rattle.lt_forest.specs.LawsOfPlans.{OtherAnchorsStay, PlanKeepsAnchors, FirstKeepsAnchors, EndKeepsAnchors, DropKeepsAnchors, PartGapIsRead, TopKeepsGap}
+use Rattle.lt_forest.specs.LawsOfPlans.{OtherAnchorsStay, PlanKeepsAnchors, FirstKeepsAnchors, EndKeepsAnchors, DropKeepsAnchors, PartGapIsRead, TopKeepsGap, GivenAreNamedWithin, ChainIsNamedWithin, GivenAreNamedByHeld, ChainIsNamedByHeld}
 use Rattle.lt_forest.proofs.GapLaws.{gap_left, gap_right, has_is, is_has, left_placed, right_placed, row_gap, top_placed, placed_tree}
 use Rattle.lt_forest.proofs.StateLaws.{chain_shows, in_order_tree, no_pairs, rows_add_up as all_rows, vacant_there, whole_shows}
 use Rattle.lt_forest.proofs.TreeParts.{replaced_ordered}
@@ -18,7 +18,7 @@ use Rattle.lt_forest.proofs.BufferLaws.{append_replies, appended, begin_replies,
 use Rattle.lt_forest.proofs.Openings.{opens}
 use Rattle.lt_forest.proofs.NamedOnce.{link_names, links_apart, pool_apart}
 use Rattle.lt_forest.proofs.NoWayBack.{none_back, part_links, placed_links, pool_links, pool_none_back, run_links}
-use Rattle.lt_forest.proofs.RowsAndHangs.{ends-hanging, ends-items, order_ends, order_pairs, order_rows}
+use Rattle.lt_forest.proofs.RowsAndHangs.{ends-hanging, ends-items, order_ends, order_pairs, order_rows, pairs_of}
 use Rattle.lt_forest.proofs.RunLaws.{merge_looser, sift_looser}
 use Rattle.lt_forest.proofs.WidenLaws.{widens}
 use Rattle.lt_forest.proofs.LayoutLaws.{laid_shows}
@@ -44,6 +44,8 @@ use Rattle.lt_forest.proofs.NamedInCuts.{hang_names, names_in}
 use Rattle.lt_forest.proofs.SideParts.{side_part, side_held, adds_row, side_closed, side_looser, side_rows, side_decides as decided_beside}
 use Rattle.lt_forest.proofs.SideDeeds.{side_ask, side_free, side_who}
 use Rattle.lt_forest.proofs.SameOrder.{same_order, turned_at_anchor, turned_at_row}
+use Rattle.lt_forest.proofs.GivenRows.{given_named, buffer_named, given_held, buffer_held}
+use Rattle.lt_forest.proofs.MergedRuns.{may_merge, merged_run, put_in}
 
 -- gaps_of_rows
 pub rows_have_one_gap : RowsHaveOneGap
@@ -528,3 +530,36 @@ turn_lays_at_anchor has planned trees t v v' old new old_link new_link turn held
 pub turn_lays_at_row : TurnLaysAtRow
 turn_lays_at_row has planned trees t s g v v' old new old_link new_link turn held all holds holds' same is is' =
     turned_at_row v v' turn holds holds' same s g held all is is'
+
+-- rows_that_are_given
+pub given_are_named_within : GivenAreNamedWithin
+given_are_named_within trees rows c d mode state f t top cut new taken given q l part lays =
+    given_named part lays q l
+
+pub chain_is_named_within : ChainIsNamedWithin
+chain_is_named_within trees rows c mode state f t owner count olds q l forest lt was leads =
+    buffer_named forest t owner count olds lt was leads q l
+
+pub given_are_named_by_held : GivenAreNamedByHeld
+given_are_named_by_held has planned v v' trees rows c d mode state f t top cut new taken given q l forest sound lt tree_mode seen view plan =
+    given_held forest sound lt tree_mode seen view plan q l
+
+pub chain_is_named_by_held : ChainIsNamedByHeld
+chain_is_named_by_held has v trees rows c mode state f t owner count olds q l forest agrees all lt was shows =
+    buffer_held forest agrees t owner count olds all lt was shows q l
+
+-- runs_that_become_one
+pub span_may_merge : SpanMayMerge
+span_may_merge = may_merge
+
+pub merged_run_loosens : MergedRunLoosens
+merged_run_loosens c d top cut new range ahead r run behind one ls ms closed =
+    merged_run c d cut new range ahead r run behind one ls ms closed.aside
+
+pub put_in_loosens : PutInLoosens
+put_in_loosens c d top cut new range ahead behind one ls ms closed =
+    put_in c d cut new range ahead behind one ls ms closed.aside
+
+pub rows_show_pairs : RowsShowPairs
+rows_show_pairs c cut =
+    pairs_of c (in_order (bare cut))

@@ -7,7 +7,7 @@ use Rattle.lt_forest.specs.Trees.{Nodes, pair_of, left_end, right_end, in_order,
 use Rattle.lt_forest.specs.Cuts.{Cut, end, held, bare, End, end_if, ends, Looser}
 use Rattle.lt_forest.specs.Counts.{times}
 use Rattle.lt_forest.specs.Plans.{SameRows}
-use Rattle.lt_forest.specs.Parts.{part_row, rows_of, hangs_of, numbers, hanging}
+use Rattle.lt_forest.specs.Parts.{part_row, rows_of, hangs_of, row_pair, numbers, hanging}
 use Rattle.lt_seq.specs.declared.event.Pair.{Pair}
 use Rattle.lt_forest.specs.Items.{Item, row, hang, items, rows_only, next_row, last_row, first_end, last_end, between}
 use Rattle.lt_forest.proofs.BoundLaws.{greater_same, less_same}
@@ -97,9 +97,6 @@ order_ends c d cut new rows hangs =
 pub numbers_of : (c : Nodes) (xs : List ℕ) → numbers (map (part_row c) xs) ≡ xs
 numbers_of c [] = refl
 numbers_of c (x ∷ xs) = ap (λ (l : List ℕ). x ∷ l) (numbers_of c xs)
-
-abbrev pub row_pair : PartRow → Pair
-row_pair r = record { owner = r.owner; range = r.range }
 
 pub pairs_of : (c : Nodes) (xs : List ℕ) → map row_pair (map (part_row c) xs) ≡ map (pair_of c) xs
 pairs_of c [] = refl

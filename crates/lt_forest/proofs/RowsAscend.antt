@@ -7,9 +7,9 @@ use Rattle.lt_forest.specs.declared.part.PartRow.{PartRow}
 use Rattle.lt_forest.specs.Bounds.{Bound, IsAbove}
 use Rattle.lt_forest.specs.Trees.{Nodes, in_order, pairs_in}
 use Rattle.lt_forest.specs.Cuts.{Cut, bare}
-use Rattle.lt_forest.specs.Parts.{rows_of, hangs_of}
+use Rattle.lt_forest.specs.Parts.{rows_of, hangs_of, row_pair}
 use Rattle.lt_forest.specs.Items.{items, rows_only, Ascends}
-use Rattle.lt_forest.proofs.RowsAndHangs.{HangBetween, cut_between, row_pair, pairs_of}
+use Rattle.lt_forest.proofs.RowsAndHangs.{HangBetween, cut_between, pairs_of}
 
 -- the first row begins above the bound
 abbrev FirstAbove : Bound → List PartRow → Type 0

@@ -4,11 +4,12 @@ use Rattle.lt_ranges.specs.declared.key.Key.{Key}
 use Rattle.lt_ranges.specs.Key.{key_le}
 use Rattle.lt_ranges.specs.Interval.{Interval, IsInterval, before, overlap}
 use Rattle.lt_ranges.proofs.KeyLaws.{le_trans}
+use Rattle.lt_ranges.proofs.IntervalLaws.{before_trans}
 use Rattle.lt_seq.specs.declared.event.Pair.{Pair}
 use Rattle.lt_seq.specs.Pairs.{IsLawful}
 use Rattle.lt_forest.specs.Pairs.{Has}
 use Rattle.lt_forest.specs.Places.{SplitsAt}
-use Rattle.lt_forest.proofs.BoundLaws.{lt_le, lt_is}
+use Rattle.lt_forest.proofs.BoundLaws.{lt_is}
 use Rattle.lt_forest.proofs.PairLists.{after_has, lawful_has}
 
 pub both_true : (b c : Bool) → b && c ≡ true → (b ≡ true) × (c ≡ true)
@@ -19,10 +20,6 @@ both_true false c e = (e, absurd (cc))
 are_both : (b c : Bool) → b ≡ true → c ≡ true → b && c ≡ true
 are_both true c e f = f
 are_both false c e f = e
-
-pub before_trans : (a b c : Interval) → before a b ≡ true → IsInterval b → before b c ≡ true → before a c ≡ true
-before_trans a b c h o k =
-    lt_le a.right b.right c.left (lt_le a.right b.left b.right h o) (lt_is b.right c.left k)
 
 -- what follows a pair that ends no earlier than the range begins does so too
 ends_later : (range : Interval) (p q : Pair) → key_le range.left p.range.right ≡ true → before p.range q.range ≡ true

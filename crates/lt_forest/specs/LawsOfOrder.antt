@@ -1,18 +1,18 @@
 -- What is true of parts in key order, so that a plan can be made from its rows and hangs alone.
-use Rattle.std.specs.Prelude.{◌≡◌, ℕ, ◌+◌, List, [], ◌∷◌, ◌++◌, None, Bool, true}
+use Rattle.std.specs.Prelude.{◌≡◌, ℕ, ◌+◌, List, [], ◌∷◌, ◌++◌, map, length, replicate, None, Bool, true}
 use Rattle.lt_ranges.specs.Interval.{Interval, IsInterval, before}
 use Rattle.lt_seq.specs.declared.event.Pair.{Pair}
 use Rattle.lt_seq.specs.Pairs.{IsLawful, is_own, others, freed, count_freed, span, granted}
 use Rattle.lt_forest.specs.Pairs.{Has}
 use Rattle.lt_forest.specs.declared.part.PartRow.{PartRow}
 use Rattle.lt_forest.specs.declared.part.Placed.{Placed}
-use Rattle.lt_forest.specs.Bounds.{Bound}
+use Rattle.lt_forest.specs.Bounds.{Bound, IsAbove, IsBelow}
 use Rattle.lt_forest.specs.Trees.{Nodes, pairs_in}
 use Rattle.lt_forest.specs.Cuts.{Cut, Shows, bare, ends, Looser, AllAside}
-use Rattle.lt_forest.specs.Parts.{rows_of, hangs_of, hanging}
-use Rattle.lt_forest.specs.Items.{Item, items, rows_only, between, sift, Ascends, MayMerge}
+use Rattle.lt_forest.specs.Parts.{rows_of, hangs_of, row_pair, hanging}
+use Rattle.lt_forest.specs.Items.{Item, items, rows_only, first_end, last_end, between, sift, Ascends, MayMerge}
 use Rattle.lt_forest.specs.Layouts.{IsLaid, HoldsPlaced}
-use Rattle.lt_forest.specs.Plans.{SameRows}
+use Rattle.lt_forest.specs.Plans.{Top, IsClosedFor, SameRows}
 use Rattle.lt_forest.specs.Widenings.{Widens}
 
 -- the links that hang, and their bounds, are those between the rows in key order
@@ -40,6 +40,38 @@ MergingLoosens =
     (range : Interval) (ahead : List Item) (run : List PartRow) (behind : List Item) (one : PartRow)
     → MayMerge range ahead run behind one → AllAside range (between (ahead ++ (rows_only run ++ behind)) None None)
     → Looser (between (ahead ++ (rows_only run ++ behind)) None None) (between (ahead ++ (rows_only (one ∷ []) ++ behind)) None None)
+
+-- One row may stand for a run of rows where its range is the span of the asked one and the run's, between rows that end before the
+-- range and rows that begin behind it.
+abbrev pub SpanMayMerge : Type 0
+SpanMayMerge =
+    (txn : ℕ) (range : Interval) (ahead run behind : List PartRow) (one : PartRow)
+    → IsInterval range → IsLawful (map row_pair run) → IsAbove (last_end ahead None) range.left
+    → IsBelow (first_end behind None) range.right → one.range ≡ span txn range (map row_pair run)
+    → MayMerge range (rows_only ahead) run (rows_only behind) one
+
+-- In a closed part a run between whose rows nothing hangs may become that one row, with the links around it as they are,
+abbrev pub MergedRunLoosens : Type 0
+MergedRunLoosens =
+    (c d : Nodes) (top : Top) (cut new : Cut) (range : Interval) (ahead : List PartRow) (r : PartRow) (run behind : List PartRow)
+    (one : PartRow) (ls ms : List ℕ)
+    → IsClosedFor range top c cut → MayMerge range (rows_only ahead) (r ∷ run) (rows_only behind) one
+    → rows_of c cut ≡ ahead ++ (r ∷ run ++ behind) → hangs_of cut ≡ ls ++ (replicate (length run) 0 ++ ms)
+    → length ls ≡ length ahead + 1 → rows_of d new ≡ ahead ++ one ∷ behind → hangs_of new ≡ ls ++ ms
+    → Looser (ends c cut None None) (ends d new None None)
+
+-- and where the range overlaps no row, a row may be put in where it has its place.
+abbrev pub PutInLoosens : Type 0
+PutInLoosens =
+    (c d : Nodes) (top : Top) (cut new : Cut) (range : Interval) (ahead behind : List PartRow) (one : PartRow) (ls ms : List ℕ)
+    → IsClosedFor range top c cut → MayMerge range (rows_only ahead) [] (rows_only behind) one
+    → rows_of c cut ≡ ahead ++ behind → hangs_of cut ≡ ls ++ 0 ∷ ms → length ls ≡ length ahead
+    → rows_of d new ≡ ahead ++ one ∷ behind → hangs_of new ≡ ls ++ 0 ∷ 0 ∷ ms
+    → Looser (ends c cut None None) (ends d new None None)
+
+-- the pairs of a cut are those of its rows
+abbrev pub RowsShowPairs : Type 0
+RowsShowPairs = (c : Nodes) (cut : Cut) → map row_pair (rows_of c cut) ≡ pairs_in c (bare cut)
 
 -- the top row of what hangs at a place may be taken into the part
 abbrev pub PartWidens : Type 0

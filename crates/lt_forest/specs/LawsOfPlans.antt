@@ -1,7 +1,8 @@
 -- What is true of the rows that a plan leaves, and of the gaps that it makes.
-use Rattle.std.specs.Prelude.{◌≡◌, ◌≢◌, ℕ, ◌+◌, ◌<◌, List, [], ◌∷◌, Bool}
+use Rattle.std.specs.Prelude.{◌≡◌, ◌≢◌, ◌⊎◌, ℕ, ◌+◌, ◌<◌, List, [], ◌∷◌, Bool}
 use Rattle.lt_ranges.specs.Interval.{Interval}
 use Rattle.lt_seq.specs.declared.event.Mode.{Mode}
+use Rattle.lt_seq.specs.declared.event.Mode.TheVariants.{Buffer}
 use Rattle.lt_seq.specs.declared.event.Deed.{Deed}
 use Rattle.lt_seq.specs.Sound.{AllSound}
 use Rattle.lt_seq.specs.Table.{Setting, TreeState}
@@ -9,10 +10,11 @@ use Rattle.lt_forest.specs.Counts.{times}
 use Rattle.lt_forest.specs.Bounds.{Gap}
 use Rattle.lt_forest.specs.Trees.{Nodes, in_order}
 use Rattle.lt_forest.specs.Cuts.{Cut, Shows, bare, IsRow}
-use Rattle.lt_forest.specs.Forest.{Forest, IsTree, IsForest}
+use Rattle.lt_forest.specs.Forest.{Forest, IsTree, IsChain, IsForest}
 use Rattle.lt_forest.specs.Buffers.{PutsFirst}
-use Rattle.lt_forest.specs.Plans.{Top, from_row, HasPartGap, IsSeen, IsPart, Lays}
-use Rattle.lt_forest.specs.Views.{IsIn, IsView, AllHeld, PlanLays, PlansThese, PlanEnds, PlanDrops}
+use Rattle.lt_forest.specs.Plans.{Top, from_anchor, from_row, HasPartGap, IsSeen, IsPart, Lays}
+use Rattle.lt_forest.specs.Links.{Slot, row_with, link_in, IsLink}
+use Rattle.lt_forest.specs.Views.{IsIn, Agrees, IsView, AllHeld, PlanLays, PlansThese, PlanEnds, PlanDrops}
 
 -- No other tree's anchor is changed where a part is laid anew,
 abbrev pub OtherAnchorsStay : Type 0
@@ -67,3 +69,37 @@ PartGapIsRead =
 abbrev pub TopKeepsGap : Type 0
 TopKeepsGap =
     (d : Nodes) (h : ℕ) (g : Gap) (new : Cut) → Shows d (h + 1) new → IsRow h new → HasPartGap (from_row h g) new d h g
+
+-- What names a row of a part that goes to the pool is a link of one of the part's rows, or of the anchor from which it hangs,
+abbrev pub GivenAreNamedWithin : Type 0
+GivenAreNamedWithin =
+    (trees rows : ℕ) (c d : Nodes) (mode : ℕ → Mode) (state : List TreeState) (f : Forest) (t : ℕ) (top : Top) (cut new : Cut)
+    (taken given : List ℕ) (q : ℕ) (l : Slot)
+    → IsPart trees rows c mode state f t top cut → Lays trees t top c d cut new taken given
+    → IsRow q cut → 0 < times q given → IsLink trees f l → link_in c l ≡ q + 1
+    → IsRow (row_with l) cut ⊎ ((top ≡ from_anchor) × (row_with l ≡ t))
+
+-- and what names a row of a buffer is a link of the buffer's rows or of its anchor.
+abbrev pub ChainIsNamedWithin : Type 0
+ChainIsNamedWithin =
+    (trees rows : ℕ) (c : Nodes) (mode : ℕ → Mode) (state : List TreeState) (f : Forest) (t owner count : ℕ) (olds : List ℕ)
+    (q : ℕ) (l : Slot)
+    → IsForest trees rows c mode state f → t < trees → mode t ≡ Buffer owner count → IsChain c (c t).left olds
+    → 0 < times q olds → IsLink trees f l → link_in c l ≡ q + 1 → (row_with l ≡ t) ⊎ (0 < times (row_with l) olds)
+
+-- So a pass that gives such a row to the pool holds the row whose link names it.
+abbrev pub GivenAreNamedByHeld : Type 0
+GivenAreNamedByHeld =
+    (has : ℕ → Bool) (planned : List ℕ) (v v' : Nodes) (trees rows : ℕ) (c d : Nodes) (mode : ℕ → Mode) (state : List TreeState)
+    (f : Forest) (t : ℕ) (top : Top) (cut new : Cut) (taken given : List ℕ) (q : ℕ) (l : Slot)
+    → IsForest trees rows c mode state f → AllSound state → t < trees → IsTree (mode t) → IsSeen c (f.tree t) top
+    → IsView (IsIn has) planned v v' c d → PlanLays (IsIn has) planned trees t top v v' cut new taken given
+    → IsRow q cut → 0 < times q given → IsLink trees f l → link_in c l ≡ q + 1 → IsIn has (row_with l)
+
+abbrev pub ChainIsNamedByHeld : Type 0
+ChainIsNamedByHeld =
+    (has : ℕ → Bool) (v : Nodes) (trees rows : ℕ) (c : Nodes) (mode : ℕ → Mode) (state : List TreeState) (f : Forest)
+    (t owner count : ℕ) (olds : List ℕ) (q : ℕ) (l : Slot)
+    → IsForest trees rows c mode state f → Agrees (IsIn has) v c → AllHeld (IsIn has) (t ∷ olds) → t < trees
+    → mode t ≡ Buffer owner count → IsChain v (v t).left olds → 0 < times q olds → IsLink trees f l → link_in c l ≡ q + 1
+    → IsIn has (row_with l)

@@ -1,5 +1,6 @@
 -- Parts in key order: rows, with one more link than rows hanging between them.
 use Rattle.std.specs.Prelude.{ℕ, List, [], ◌∷◌, ◌++◌, map, Some}
+use Rattle.lt_seq.specs.declared.event.Pair.{Pair}
 use Rattle.lt_forest.specs.declared.part.PartRow.{PartRow}
 use Rattle.lt_forest.specs.Bounds.{Bound}
 use Rattle.lt_forest.specs.Trees.{Nodes, in_order}
@@ -16,6 +17,10 @@ rows_of c cut = map (part_row c) (in_order (bare cut))
 abbrev pub hangs_of : Cut → List ℕ
 hangs_of (end l) = l ∷ []
 hangs_of (held a r b) = hangs_of a ++ hangs_of b
+
+-- a row's range with its owner
+abbrev pub row_pair : PartRow → Pair
+row_pair r = record { owner = r.owner; range = r.range }
 
 -- the numbers of the rows
 abbrev pub numbers : List PartRow → List ℕ

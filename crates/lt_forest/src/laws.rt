@@ -3,9 +3,9 @@ ghost use Rattle.lt_forest.specs.LawsOfGaps.{RowsHaveOneGap, LeftChildsGap, Righ
 ghost use Rattle.lt_forest.specs.LawsOfParts.{TreesAreOrdered, ReplacedIsInOrder, VisitLeavesOutNone, VisitedIsClosed, ClosedPartHasAll, PartShowsPairs, WholePartShowsAll, EmptyTreeHasNone, PartIsReplaced, PartIsLaidForDeed, PartIsLaidAgain, TopRowStays};
 ghost use Rattle.lt_forest.specs.LawsOfBuffers.{ChainShowsBuffer, FrontIsGranted, BufferBegins, BufferGrows, BufferEnds, BufferIsDropped, OwnerIsAlone};
 ghost use Rattle.lt_forest.specs.LawsOfRows.{RowsAddUp, VacantIsThere, OpeningIsForest, LinksNameFurther, NoneIsNamedTwice, NoneLeadsBack, NoneOfPoolLeadsBack, PoolIsApart, GapRowsAreLinked, PartRowsAreLinked, RunRowsAreLinked, PoolRowsAreLinked, TreeRowsAreFurther, PoolRowsAreFurther, RunRowsAreFurther, TakenRowsAreFurther, PartRowsAreFurther, ForestReadsItsRows};
-ghost use Rattle.lt_forest.specs.LawsOfOrder.{EndsAreHanging, EndsAreBetween, SameOrderKeeps, LeavingOutLoosens, MergingLoosens, PartWidens, PlacedShows, MiddleDecides, OwnBecomeOne};
+ghost use Rattle.lt_forest.specs.LawsOfOrder.{EndsAreHanging, EndsAreBetween, SameOrderKeeps, LeavingOutLoosens, MergingLoosens, PartWidens, PlacedShows, MiddleDecides, OwnBecomeOne, SpanMayMerge, MergedRunLoosens, PutInLoosens, RowsShowPairs};
 ghost use Rattle.lt_forest.specs.LawsOfViews.{TopIsRead, LeftIsRead, RightIsRead, ReadLinksNameFurther, NoneIsReadTwice, NoneIsReadBack, PoolIsReadApart, VacantIsRead, HeldPartShowsPairs, HeldPartHasAll, HeldWholeShowsAll, HeldChainShowsBuffer, PlanServesDeed, PlanServesLayout, PlanServesReplacement, PlanBegins, PlanAppends, PlanEndsBuffer, PlanDropsBuffer, ReadRunIsFurther, ReadPoolIsFurther, HeldPartIsFurther};
-ghost use Rattle.lt_forest.specs.LawsOfPlans.{OtherAnchorsStay, PlanKeepsAnchors, FirstKeepsAnchors, EndKeepsAnchors, DropKeepsAnchors, PartGapIsRead, TopKeepsGap};
+ghost use Rattle.lt_forest.specs.LawsOfPlans.{OtherAnchorsStay, PlanKeepsAnchors, FirstKeepsAnchors, EndKeepsAnchors, DropKeepsAnchors, PartGapIsRead, TopKeepsGap, GivenAreNamedWithin, ChainIsNamedWithin, GivenAreNamedByHeld, ChainIsNamedByHeld};
 ghost use Rattle.lt_forest.specs.LawsOfSearches.{PartIsLawful, HeldPartIsLawful, LawfulPartAscends, LawfulListSplits, WidenedIsPart, WidenedIsClosed, HeldWidenedIsPart, HeldWidenedIsClosed, NoneHangsBetween, NoneHangsThere, ReachedAreNotAside, ClosedIsVisited, HangsNameOthers, HeldHangsNameOthers, CutRowsAreNamed, HeldRowsAreNamed, GapRowsTreeMode, NoneOfPoolIsReadBack, EmptyTreeIsRead};
 ghost use Rattle.lt_forest.specs.LawsOfSides.{SideIsPart, HeldSideIsPart, SideAddsTheRow, SideIsClosed, SideLoosens, SideHasSameRows, SideDecides, SideShowsGranted, SideShowsHeld, SideShowsFree, SideShowsWho, SameOrderLays, TurnLaysAtAnchor, TurnLaysAtRow};
 
@@ -275,4 +275,22 @@ pub fn plans_for_layouts()
     ensures order { SameOrderLays }
     ensures anchor { TurnLaysAtAnchor }
     ensures row { TurnLaysAtRow }
+{}
+
+/// What names a row that goes to the pool, of a part that is laid anew or of a buffer, is a link of the part's rows, of the buffer's
+/// rows, or of their anchor: so it stands on a row that the pass holds.
+pub fn rows_that_are_given()
+    ensures part { GivenAreNamedWithin }
+    ensures buffer { ChainIsNamedWithin }
+    ensures held_part { GivenAreNamedByHeld }
+    ensures held_buffer { ChainIsNamedByHeld }
+{}
+
+/// A run of rows may become one whose range is the span of the asked one and the run's, and a row may be put in where the range
+/// overlaps none: no bound gets tighter.
+pub fn runs_that_become_one()
+    ensures span { SpanMayMerge }
+    ensures merged { MergedRunLoosens }
+    ensures put_in { PutInLoosens }
+    ensures pairs { RowsShowPairs }
 {}
