@@ -1,5 +1,5 @@
 -- What names the rows that a plan gives to the pool.
-use Rattle.std.proofs.Common.{◌≡◌, ◌⊎◌, inl, inr, ℕ, ◌+◌, ◌<◌, List, [], ◌∷◌, refl, sym, ap, ◌∙◌, subst, arith, ne_eqb}
+use Rattle.std.proofs.Common.{◌≡◌, ◌⊎◌, inl, inr, ℕ, ◌+◌, ◌<◌, List, [], ◌∷◌, refl, sym, ap, subst, arith, ne_eqb}
 use Rattle.std.specs.Prelude.{nat_eq}
 use mathlib.Core.Logic.{dite}
 use native.Mathlib.Decide.{ℕ_discrete}
@@ -14,7 +14,7 @@ use Rattle.lt_forest.specs.Forest.{Forest, IsTree, IsChain, IsForest}
 use Rattle.lt_forest.specs.Plans.{Top, from_anchor, from_row, top_link, IsSeen, IsPart, Lays}
 use Rattle.lt_forest.specs.Links.{Slot, left_of, right_of, row_with, link_in, IsLink}
 use Rattle.lt_forest.specs.Views.{IsView, Agrees, AllHeld, TopHeld, PlanLays}
-use Rattle.lt_forest.proofs.SameRows.{one_here, one_equal}
+use Rattle.lt_forest.proofs.SameRows.{one_here}
 use Rattle.lt_forest.proofs.FurtherRows.{chain_run}
 use Rattle.lt_forest.proofs.NamedOnce.{links_apart}
 use Rattle.lt_forest.proofs.NoWayBack.{part_links, run_links}

@@ -1,15 +1,14 @@
 -- What hangs in a closed part: nothing between rows that overlap the range, and what is taken into it leaves it closed.
-use Rattle.std.proofs.Common.{◌≡◌, ◌⊎◌, inl, inr, ℕ, zero, suc, ◌+◌, ◌<◌, List, [], ◌∷◌, ◌++◌, map, length, Bool, true, false, not, refl, sym, ap, ap₂, ◌∙◌, subst, arith}
+use Rattle.std.proofs.Common.{◌≡◌, ◌⊎◌, inl, inr, ℕ, zero, suc, ◌+◌, ◌<◌, List, [], ◌∷◌, ◌++◌, map, length, true, not, refl, sym, ap, ◌∙◌, subst, arith}
 use Rattle.std.specs.Prelude.{None, Some}
-use Rattle.lt_ranges.specs.declared.key.Key.{Key}
 use Rattle.lt_ranges.specs.Key.{key_le}
 use Rattle.lt_ranges.specs.Interval.{Interval, IsInterval, overlap}
 use Rattle.lt_ranges.proofs.KeyLaws.{le_trans}
 use Rattle.lt_seq.specs.Pairs.{IsLawful}
 use Rattle.lt_forest.specs.declared.part.PartRow.{PartRow}
 use Rattle.lt_forest.specs.Bounds.{Bound, IsAbove, IsBelow}
-use Rattle.lt_forest.specs.Trees.{Nodes, in_order, pairs_in}
-use Rattle.lt_forest.specs.Cuts.{Cut, bare, End, end_if, ends, EndsBefore, BeginsBehind, IsAside, AllAside}
+use Rattle.lt_forest.specs.Trees.{Nodes, pairs_in}
+use Rattle.lt_forest.specs.Cuts.{Cut, bare, end_if, ends, EndsBefore, BeginsBehind, AllAside}
 use Rattle.lt_forest.specs.Parts.{part_row, rows_of, hangs_of, hanging}
 use Rattle.lt_forest.specs.Items.{rows_only, first_end, last_end, Ascends}
 use Rattle.lt_forest.specs.Widenings.{Widens}

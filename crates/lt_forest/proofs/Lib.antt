@@ -1,10 +1,6 @@
 -- keys and lists
 pub mod BoundLaws
 pub mod PairLists
-pub mod Changes
-pub mod PairChanges
-pub mod DeedChanges
-pub mod MiddleSteps
 -- one tree
 pub mod TreeLaws
 pub mod LawfulTrees
@@ -14,12 +10,15 @@ pub mod EndLaws
 pub mod HangLaws
 pub mod Growing
 pub mod TreeParts
-pub mod RowsAndHangs
-pub mod RunLaws
-pub mod WidenLaws
-pub mod LayoutLaws
-pub mod RotationLaws
-pub mod PartGaps
+pub mod RowsAscend
+pub mod HangsAside
+pub mod Reached
+-- deeds
+pub mod Changes
+pub mod PairChanges
+pub mod DeedChanges
+pub mod MiddleSteps
+pub mod Splits
 -- forests
 pub mod Chains
 pub mod ForestLaws
@@ -28,16 +27,10 @@ pub mod FurtherRows
 pub mod GapLaws
 pub mod NamedOnce
 pub mod NoWayBack
+pub mod NamedInCuts
 pub mod StateLaws
 pub mod Openings
 pub mod VisitLaws
-pub mod NamedInCuts
--- what a search relies on
-pub mod RowsAscend
-pub mod Splits
-pub mod HangsAside
-pub mod Reached
--- deeds
 pub mod PlanLaws
 pub mod EventLaws
 pub mod BufferLaws
@@ -47,11 +40,19 @@ pub mod BuffersInView
 pub mod ReadOffRows
 pub mod WidenedParts
 pub mod GivenRows
--- parts beside a held row, and layouts
+-- laws for plans
+pub mod RowsAndHangs
+pub mod RunLaws
+pub mod MergedRuns
+pub mod GrantedRuns
+pub mod LeftOutRows
+pub mod WidenLaws
+pub mod LayoutLaws
+pub mod RotationLaws
 pub mod SideParts
 pub mod SideDeeds
 pub mod SameOrder
-pub mod MergedRuns
+pub mod PartGaps
 -- each public law by its name
 pub mod PublicLaws
 -- worked

@@ -1,5 +1,5 @@
 -- A run of rows that becomes one, and a row that is put in, read off rows and hangs in key order.
-use Rattle.std.proofs.Common.{◌≡◌, inl, inr, ℕ, zero, suc, ◌+◌, List, [], ◌∷◌, ◌++◌, map, length, replicate, Bool, true, refl, sym, ap, ap₂, ◌∙◌, subst, arith, append_assoc, length-append}
+use Rattle.std.proofs.Common.{◌≡◌, inl, inr, ℕ, zero, suc, ◌+◌, List, [], ◌∷◌, ◌++◌, map, length, replicate, true, refl, sym, ap, ◌∙◌, subst, arith, append_assoc, length-append}
 use Rattle.std.specs.Prelude.{None, Some}
 use Rattle.std.specs.List.{filter, fold}
 use Rattle.lt_ranges.specs.declared.key.Key.{Key}
@@ -14,13 +14,13 @@ use Rattle.lt_forest.specs.Pairs.{Has}
 use Rattle.lt_forest.specs.Trees.{Nodes, in_order}
 use Rattle.lt_forest.specs.Cuts.{Cut, bare, End, ends, Looser, AllAside}
 use Rattle.lt_forest.specs.Parts.{part_row, rows_of, hangs_of, row_pair}
-use Rattle.lt_forest.specs.Items.{Item, row, hang, hang_if, items, rows_only, next_row, last_row, first_end, last_end, between, MayMerge}
+use Rattle.lt_forest.specs.Items.{Item, row, hang_if, items, rows_only, next_row, last_row, first_end, last_end, between, MayMerge}
 use Rattle.lt_forest.proofs.BoundLaws.{lt_is}
-use Rattle.lt_forest.proofs.PairLists.{after_has, lawful_has, has_filter}
+use Rattle.lt_forest.proofs.PairLists.{after_has, has_filter}
 use Rattle.lt_forest.proofs.PartLaws.{map_long}
 use Rattle.lt_forest.proofs.MiddleSteps.{fold_least}
 use Rattle.lt_forest.proofs.WidenLaws.{length-hangs_of}
-use Rattle.lt_forest.proofs.RowsAndHangs.{ends-items, last_row-rows, next_row-rows}
+use Rattle.lt_forest.proofs.RowsAndHangs.{ends-items, last_row-rows}
 use Rattle.lt_forest.proofs.RunLaws.{merge_looser}
 
 -- the span of a run
@@ -35,7 +35,7 @@ fold_greatest k range (m ∷ ms) low all =
     most a b h i = grind arith
 
 -- the first row begins no later than any other
-first_least : (r : PartRow) (rows : List PartRow) → IsLawful (map row_pair (r ∷ rows)) → (p : Pair) → Has p (map row_pair (r ∷ rows))
+pub first_least : (r : PartRow) (rows : List PartRow) → IsLawful (map row_pair (r ∷ rows)) → (p : Pair) → Has p (map row_pair (r ∷ rows))
     → key_le r.range.left p.range.left ≡ true
 first_least r rows lawful p h = elim h [
   | inl e ↦ subst (λ (q : Pair). key_le r.range.left q.range.left ≡ true) (sym e) (le_itself r.range.left)
@@ -45,7 +45,7 @@ first_least r rows lawful p h = elim h [
 ]
 
 -- and the last one ends no earlier
-last_greatest : (rows : List PartRow) (x : Bound) (k : Key) → IsLawful (map row_pair rows) → last_end rows x ≡ Some k
+pub last_greatest : (rows : List PartRow) (x : Bound) (k : Key) → IsLawful (map row_pair rows) → last_end rows x ≡ Some k
     → (p : Pair) → Has p (map row_pair rows) → key_le p.range.right k ≡ true
 last_greatest [] x k lawful is p h = absurd h
 last_greatest (r ∷ []) x k lawful is p h = elim h [
@@ -101,7 +101,7 @@ module _ (txn : ℕ) (range : Interval) (ahead run behind : List PartRow) (one :
 
 -- items in two, where rows and hangs split
 
-hang_if-++ : (l : ℕ) (xs ys : List Item) → hang_if l xs ++ ys ≡ hang_if l (xs ++ ys)
+pub hang_if-++ : (l : ℕ) (xs ys : List Item) → hang_if l xs ++ ys ≡ hang_if l (xs ++ ys)
 hang_if-++ zero xs ys = refl
 hang_if-++ (suc l) xs ys = refl
 
@@ -110,7 +110,7 @@ items_first [] l ls = refl
 items_first (r ∷ rows) l ls = refl
 
 -- one link more than rows stands ahead
-items_split : (ahead : List PartRow) (r : PartRow) (rest : List PartRow) (ls ms : List ℕ) → length ls ≡ length ahead + 1
+pub items_split : (ahead : List PartRow) (r : PartRow) (rest : List PartRow) (ls ms : List ℕ) → length ls ≡ length ahead + 1
     → items (ahead ++ r ∷ rest) (ls ++ ms) ≡ items ahead ls ++ row r ∷ items rest ms
 items_split [] r rest [] ms e = absurd (omega (arith, e))
 items_split [] r rest (l ∷ []) ms e = sym (hang_if-++ l [] (row r ∷ items rest ms))

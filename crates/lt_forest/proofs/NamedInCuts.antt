@@ -1,5 +1,5 @@
 -- Which links name the rows of a cut, and which rows the links name that hang below one.
-use Rattle.std.proofs.Common.{◌≡◌, ◌⊎◌, inl, inr, ℕ, zero, suc, ◌+◌, ◌<◌, Bool, true, false, List, [], ◌∷◌, ◌++◌, refl, sym, ap, ◌∙◌, subst, arith, ne_eqb}
+use Rattle.std.proofs.Common.{◌≡◌, ◌⊎◌, inl, inr, ℕ, zero, suc, ◌+◌, ◌<◌, List, [], ◌∷◌, refl, sym, ap, subst, arith, ne_eqb}
 use Rattle.std.specs.Prelude.{nat_eq}
 use mathlib.Core.Logic.{dite}
 use native.Mathlib.Decide.{ℕ_discrete}
@@ -10,7 +10,7 @@ use Rattle.lt_forest.specs.Trees.{Tree, leaf, node, Nodes, LeadsTo, in_order}
 use Rattle.lt_forest.specs.Cuts.{Cut, end, held, Shows, bare, IsRow, links}
 use Rattle.lt_forest.specs.Parts.{hangs_of}
 use Rattle.lt_forest.specs.Forest.{Forest}
-use Rattle.lt_forest.specs.Plans.{Top, top_link, IsPart}
+use Rattle.lt_forest.specs.Plans.{Top, IsPart}
 use Rattle.lt_forest.specs.Links.{Slot, left_of, right_of, row_with, link_in}
 use Rattle.lt_forest.proofs.SameRows.{times-++, one_here, one_equal}
 use Rattle.lt_forest.proofs.HangLaws.{hung}
@@ -18,7 +18,7 @@ use Rattle.lt_forest.proofs.Growing.{AllGrow, links_grow}
 use Rattle.lt_forest.proofs.TreeLaws.{last_link}
 use Rattle.lt_forest.proofs.ForestLaws.{one_place}
 use Rattle.lt_forest.proofs.FurtherRows.{in_tree_further}
-use Rattle.lt_forest.proofs.PartLaws.{known, at, hanging, filled, rows_are}
+use Rattle.lt_forest.proofs.PartLaws.{at, hanging, filled, rows_are}
 
 -- the link to the cut, or a link of one of its rows, names the row
 abbrev pub NamesIn : Nodes → ℕ → Cut → ℕ → Type 0

@@ -1,5 +1,5 @@
 -- The gaps that the rows of a new part get, read off a plan's images.
-use Rattle.std.proofs.Common.{◌≡◌, inl, inr, ℕ, ◌+◌, ◌<◌, List, [], ◌∷◌, subst, arith}
+use Rattle.std.proofs.Common.{◌≡◌, inl, inr, ℕ, ◌+◌, ◌<◌, [], ◌∷◌, subst, arith}
 use Rattle.std.specs.Prelude.{Some, None}
 use Rattle.lt_forest.specs.Counts.{times}
 use Rattle.lt_forest.specs.Bounds.{Bound, Gap}

@@ -4,7 +4,7 @@ use Rattle.lt_forest.specs.LawsOfGaps.{RowsHaveOneGap, LeftChildsGap, RightChild
 use Rattle.lt_forest.specs.LawsOfParts.{TreesAreOrdered, ReplacedIsInOrder, VisitLeavesOutNone, VisitedIsClosed, ClosedPartHasAll, PartShowsPairs, WholePartShowsAll, EmptyTreeHasNone, PartIsReplaced, PartIsLaidForDeed, PartIsLaidAgain, TopRowStays}
 use Rattle.lt_forest.specs.LawsOfBuffers.{ChainShowsBuffer, FrontIsGranted, BufferBegins, BufferGrows, BufferEnds, BufferIsDropped, OwnerIsAlone}
 use Rattle.lt_forest.specs.LawsOfRows.{RowsAddUp, VacantIsThere, OpeningIsForest, LinksNameFurther, NoneIsNamedTwice, NoneLeadsBack, NoneOfPoolLeadsBack, PoolIsApart, GapRowsAreLinked, PartRowsAreLinked, RunRowsAreLinked, PoolRowsAreLinked, TreeRowsAreFurther, PoolRowsAreFurther, RunRowsAreFurther, TakenRowsAreFurther, PartRowsAreFurther, ForestReadsItsRows}
-use Rattle.lt_forest.specs.LawsOfOrder.{EndsAreHanging, EndsAreBetween, SameOrderKeeps, LeavingOutLoosens, MergingLoosens, PartWidens, PlacedShows, MiddleDecides, OwnBecomeOne, SpanMayMerge, MergedRunLoosens, PutInLoosens, RowsShowPairs}
+use Rattle.lt_forest.specs.LawsOfOrder.{EndsAreHanging, EndsAreBetween, SameOrderKeeps, LeavingOutLoosens, MergingLoosens, PartWidens, PlacedShows, MiddleDecides, OwnBecomeOne, SpanMayMerge, MergedRunLoosens, PutInLoosens, RowsShowPairs, NoneIsLeftOut, OneIsKept, OneIsLeftOut, LeftOutLoosens, LeftOutIsFreed, MergedRunIsGranted}
 use Rattle.lt_forest.specs.LawsOfViews.{TopIsRead, LeftIsRead, RightIsRead, ReadLinksNameFurther, NoneIsReadTwice, NoneIsReadBack, PoolIsReadApart, VacantIsRead, HeldPartShowsPairs, HeldPartHasAll, HeldWholeShowsAll, HeldChainShowsBuffer, PlanServesDeed, PlanServesLayout, PlanServesReplacement, PlanBegins, PlanAppends, PlanEndsBuffer, PlanDropsBuffer, ReadRunIsFurther, ReadPoolIsFurther, HeldPartIsFurther}
 use Rattle.lt_forest.specs.LawsOfPlans.{OtherAnchorsStay, PlanKeepsAnchors, FirstKeepsAnchors, EndKeepsAnchors, DropKeepsAnchors, PartGapIsRead, TopKeepsGap, GivenAreNamedWithin, ChainIsNamedWithin, GivenAreNamedByHeld, ChainIsNamedByHeld}
 use Rattle.lt_forest.proofs.GapLaws.{gap_left, gap_right, has_is, is_has, left_placed, right_placed, row_gap, top_placed, placed_tree}
@@ -31,9 +31,9 @@ use Rattle.lt_forest.proofs.ForestLaws.{anchors}
 use Rattle.lt_forest.proofs.PartGaps.{on_part_gap, top_gap}
 use Rattle.lt_forest.specs.Views.{IsIn}
 use Rattle.lt_forest.specs.Trees.{in_order}
-use Rattle.lt_forest.specs.Cuts.{bare}
-use Rattle.lt_forest.specs.LawsOfSearches.{PartIsLawful, HeldPartIsLawful, LawfulPartAscends, LawfulListSplits, WidenedIsPart, WidenedIsClosed, HeldWidenedIsPart, HeldWidenedIsClosed, NoneHangsBetween, NoneHangsThere, ReachedAreNotAside, ClosedIsVisited, HangsNameOthers, HeldHangsNameOthers, CutRowsAreNamed, HeldRowsAreNamed, GapRowsTreeMode, NoneOfPoolIsReadBack, EmptyTreeIsRead}
-use Rattle.lt_forest.specs.LawsOfSides.{SideIsPart, HeldSideIsPart, SideAddsTheRow, SideIsClosed, SideLoosens, SideHasSameRows, SideDecides, SideShowsGranted, SideShowsHeld, SideShowsFree, SideShowsWho, SameOrderLays, TurnLaysAtAnchor, TurnLaysAtRow}
+use Rattle.lt_forest.specs.Cuts.{bare, AllAside}
+use Rattle.lt_forest.specs.LawsOfSearches.{PartIsLawful, HeldPartIsLawful, LawfulPartAscends, LawfulListSplits, WidenedIsPart, WidenedIsClosed, HeldWidenedIsPart, HeldWidenedIsClosed, NoneHangsBetween, NoneHangsThere, ReachedAreNotAside, ClosedIsVisited, HangsNameOthers, HeldHangsNameOthers, CutRowsAreNamed, HeldRowsAreNamed, GapRowsTreeMode, NoneOfPoolIsReadBack, EmptyTreeIsRead, AsideIsClosed}
+use Rattle.lt_forest.specs.LawsOfSides.{SideIsPart, HeldSideIsPart, SideAddsTheRow, SideIsClosed, SideLoosens, SideHasSameRows, SideDecides, SideShowsGranted, SideShowsHeld, SideShowsFree, SideShowsWho, SameOrderLays, TurnLaysAtAnchor, TurnLaysAtRow, SideIsLawful}
 use Rattle.lt_seq.specs.Pairs.{IsLawful}
 use Rattle.lt_forest.proofs.RowsAscend.{items_ascend}
 use Rattle.lt_forest.proofs.Splits.{splits}
@@ -41,11 +41,14 @@ use Rattle.lt_forest.proofs.WidenedParts.{wider_part, wider_closed, wider_held, 
 use Rattle.lt_forest.proofs.HangsAside.{none_between, none_there}
 use Rattle.lt_forest.proofs.Reached.{reached_exactly, closed_visited}
 use Rattle.lt_forest.proofs.NamedInCuts.{hang_names, names_in}
-use Rattle.lt_forest.proofs.SideParts.{side_part, side_held, adds_row, side_closed, side_looser, side_rows, side_decides as decided_beside}
+use Rattle.lt_forest.proofs.SideParts.{side_part, side_held, adds_row, side_closed, side_looser, side_rows, side_decides as decided_beside, side_lawful}
 use Rattle.lt_forest.proofs.SideDeeds.{side_ask, side_free, side_who}
 use Rattle.lt_forest.proofs.SameOrder.{same_order, turned_at_anchor, turned_at_row}
 use Rattle.lt_forest.proofs.GivenRows.{given_named, buffer_named, given_held, buffer_held}
 use Rattle.lt_forest.proofs.MergedRuns.{may_merge, merged_run, put_in}
+use Rattle.lt_forest.proofs.LeftOutRows.{none_left_out, one_kept, one_left_out, left_out_looser, left_out_freed}
+use Rattle.lt_forest.proofs.GrantedRuns.{merged_granted}
+use Rattle.std.specs.Prelude.{None}
 
 -- gaps_of_rows
 pub rows_have_one_gap : RowsHaveOneGap
@@ -448,6 +451,9 @@ pub closed_is_visited : ClosedIsVisited
 closed_is_visited c top cut range closed =
     closed_visited c cut range closed.aside
 
+pub aside_is_closed : AsideIsClosed
+aside_is_closed c top cut range in_gap aside = record { in_gap = in_gap; aside = subst (AllAside range) (sym (ends-hanging c cut None None)) aside }
+
 -- rows_that_are_named
 pub hangs_name_others : HangsNameOthers
 hangs_name_others trees rows c mode state f t top cut r part =
@@ -497,6 +503,9 @@ side_loosens = side_looser
 
 pub side_has_same_rows : SideHasSameRows
 side_has_same_rows = side_rows
+
+pub side_is_lawful : SideIsLawful
+side_is_lawful = side_lawful
 
 -- deeds_beside_a_row
 pub side_decides : SideDecides
@@ -563,3 +572,22 @@ put_in_loosens c d top cut new range ahead behind one ls ms closed =
 pub rows_show_pairs : RowsShowPairs
 rows_show_pairs c cut =
     pairs_of c (in_order (bare cut))
+
+pub merged_run_is_granted : MergedRunIsGranted
+merged_run_is_granted = merged_granted
+
+-- rows_that_are_left_out
+pub none_is_left_out : NoneIsLeftOut
+none_is_left_out = none_left_out
+
+pub one_is_kept : OneIsKept
+one_is_kept = one_kept
+
+pub one_is_left_out : OneIsLeftOut
+one_is_left_out = one_left_out
+
+pub left_out_loosens : LeftOutLoosens
+left_out_loosens = left_out_looser
+
+pub left_out_is_freed : LeftOutIsFreed
+left_out_is_freed = left_out_freed

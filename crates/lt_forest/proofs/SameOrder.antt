@@ -1,5 +1,5 @@
 -- Layouts: plans that leave a part's rows and hangs in their order, and rows that are turned.
-use Rattle.std.proofs.Common.{◌≡◌, inl, inr, ℕ, ◌+◌, ◌<◌, List, [], ◌∷◌, ◌++◌, map, refl, sym, ap, ap₂, ◌∙◌, subst, arith}
+use Rattle.std.proofs.Common.{◌≡◌, ℕ, ◌+◌, ◌<◌, List, [], ◌∷◌, map, refl, sym, ap, ap₂, ◌∙◌, subst, arith}
 use Rattle.lt_seq.specs.declared.event.Pair.{Pair}
 use Rattle.lt_forest.specs.declared.part.PartRow.{PartRow}
 use Rattle.lt_forest.specs.declared.part.Placed.{Placed}
@@ -10,7 +10,7 @@ use Rattle.lt_forest.specs.Cuts.{Cut, Shows, bare}
 use Rattle.lt_forest.specs.Parts.{part_row, rows_of, hangs_of}
 use Rattle.lt_forest.specs.Layouts.{HoldsPlaced, Turns}
 use Rattle.lt_forest.specs.Plans.{Top, from_anchor, from_row, top_link}
-use Rattle.lt_forest.specs.Links.{Slot, left_of, right_of, row_with, link_in}
+use Rattle.lt_forest.specs.Links.{Slot, row_with, link_in}
 use Rattle.lt_forest.specs.Views.{AllHeld, PlansOnly, TopStays, HoldsPart, no_pool, PlanLays}
 use Rattle.lt_forest.specs.Sides.{far_link, around, next_to}
 use Rattle.lt_forest.proofs.SameRows.{times-++, one_here}

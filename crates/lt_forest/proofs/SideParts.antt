@@ -1,10 +1,8 @@
 -- Parts on one side of a held row, without that row and with it.
-use Rattle.std.proofs.Common.{◌≡◌, inl, inr, ℕ, ◌+◌, ◌<◌, List, [], ◌∷◌, ◌++◌, map, length, length-append, true, not, refl, sym, ap, ◌∙◌, subst, arith, append-nil, ne_eqb}
+use Rattle.std.proofs.Common.{◌≡◌, inl, inr, ℕ, ◌+◌, ◌<◌, List, [], ◌∷◌, ◌++◌, length, length-append, true, refl, sym, ap, ◌∙◌, subst, arith, append-nil, ne_eqb}
 use Rattle.std.specs.Prelude.{None, Some, nat_eq}
 use mathlib.Core.Logic.{dite}
 use native.Mathlib.Decide.{ℕ_discrete}
-use Rattle.lt_ranges.specs.declared.key.Key.{Key}
-use Rattle.lt_ranges.specs.Key.{key_le}
 use Rattle.lt_ranges.specs.Interval.{Interval, IsInterval, before}
 use Rattle.lt_ranges.proofs.KeyLaws.{le_trans}
 use Rattle.lt_seq.specs.declared.event.Pair.{Pair}
@@ -12,20 +10,19 @@ use Rattle.lt_seq.specs.declared.event.Mode.{Mode}
 use Rattle.lt_seq.specs.Pairs.{IsLawful, others, freed, count_freed, granted}
 use Rattle.lt_seq.specs.Sound.{AllSound}
 use Rattle.lt_seq.specs.Table.{TreeState}
-use Rattle.lt_forest.specs.declared.part.PartRow.{PartRow}
 use Rattle.lt_forest.specs.Counts.{one_if, times}
-use Rattle.lt_forest.specs.Bounds.{Gap, Bound}
+use Rattle.lt_forest.specs.Bounds.{Gap}
 use Rattle.lt_forest.specs.Pairs.{Has}
 use Rattle.lt_forest.specs.Trees.{Nodes, left_end, right_end, in_order, pair_of, pairs_in, IsOrdered}
-use Rattle.lt_forest.specs.Cuts.{Cut, end, held, Shows, bare, end_if, ends, Looser, EndsBefore, BeginsBehind, AllAside}
+use Rattle.lt_forest.specs.Cuts.{Cut, Shows, bare, end_if, ends, Looser, AllAside}
 use Rattle.lt_forest.specs.Parts.{part_row, rows_of, hangs_of, hanging}
 use Rattle.lt_forest.specs.Forest.{Forest, IsTree, IsForest}
 use Rattle.lt_forest.specs.Plans.{from_row, IsInGap, IsSeen, IsPart, IsClosedFor, SameRows}
 use Rattle.lt_forest.specs.Links.{Slot, left_of, right_of, row_with, link_in}
 use Rattle.lt_forest.specs.Views.{AllHeld, HoldsPart}
-use Rattle.lt_forest.specs.Sides.{far_link, around, next_to, IsOnSide, AddsTheRow, StepsOnSide}
+use Rattle.lt_forest.specs.Sides.{far_link, around, IsOnSide, AddsTheRow, StepsOnSide}
 use Rattle.lt_forest.proofs.BoundLaws.{lt_is}
-use Rattle.lt_forest.proofs.PairLists.{map_app}
+use Rattle.lt_forest.proofs.PairLists.{map_app, lawful_left}
 use Rattle.lt_forest.proofs.LawfulTrees.{lawful_ordered}
 use Rattle.lt_forest.proofs.SameRows.{times-++}
 use Rattle.lt_forest.proofs.EndLaws.{looser_at, aside_at}
@@ -80,6 +77,11 @@ adds_row c (left_of h) part = record {
   pairs = map_app (pair_of c) (in_order (bare part)) (h ∷ []);
 }
 adds_row c (right_of h) part = record { rows = refl; hangs = refl; pairs = refl }
+
+pub side_lawful : (c : Nodes) (s : Slot) (part : Cut) → IsLawful (pairs_in c (bare (around c s part))) → IsLawful (pairs_in c (bare part))
+side_lawful c (left_of h) part lawful =
+    lawful_left (pairs_in c (bare part)) (pair_of c h ∷ []) (subst IsLawful (adds_row c (left_of h) part).pairs lawful)
+side_lawful c (right_of h) part lawful = lawful.2
 
 -- bounds
 

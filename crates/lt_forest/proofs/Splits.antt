@@ -1,6 +1,5 @@
 -- A lawful list splits at a range.
-use Rattle.std.proofs.Common.{◌≡◌, ◌⊎◌, inl, inr, List, [], ◌∷◌, ◌++◌, Bool, true, false, not, ◌&&◌, refl, sym, ap, ◌∙◌, subst, arith}
-use Rattle.lt_ranges.specs.declared.key.Key.{Key}
+use Rattle.std.proofs.Common.{◌≡◌, inl, inr, List, [], ◌∷◌, ◌++◌, Bool, true, false, not, ◌&&◌, refl, sym, ap, subst}
 use Rattle.lt_ranges.specs.Key.{key_le}
 use Rattle.lt_ranges.specs.Interval.{Interval, IsInterval, before, overlap}
 use Rattle.lt_ranges.proofs.KeyLaws.{le_trans}

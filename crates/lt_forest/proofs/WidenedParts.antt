@@ -1,5 +1,5 @@
 -- A part that is widened is a part, and a closed one stays closed; how a pass sees it.
-use Rattle.std.proofs.Common.{◌≡◌, ◌⊎◌, inl, inr, ℕ, ◌+◌, ◌<◌, List, ◌∷◌, ◌++◌, sym, ap, ◌∙◌, subst, arith, ne_eqb}
+use Rattle.std.proofs.Common.{◌≡◌, ◌⊎◌, inl, inr, ℕ, ◌+◌, ◌<◌, List, ◌∷◌, sym, ap, subst, arith, ne_eqb}
 use Rattle.std.specs.Prelude.{nat_eq}
 use mathlib.Core.Logic.{dite}
 use native.Mathlib.Decide.{ℕ_discrete}
@@ -9,13 +9,13 @@ use Rattle.lt_seq.specs.Pairs.{IsLawful}
 use Rattle.lt_seq.specs.Sound.{AllSound}
 use Rattle.lt_seq.specs.Table.{TreeState}
 use Rattle.lt_forest.specs.Counts.{one_if, times}
-use Rattle.lt_forest.specs.Trees.{Nodes, in_order}
-use Rattle.lt_forest.specs.Cuts.{Cut, bare, IsRow}
+use Rattle.lt_forest.specs.Trees.{Nodes}
+use Rattle.lt_forest.specs.Cuts.{Cut, IsRow}
 use Rattle.lt_forest.specs.Forest.{Forest, IsTree, IsForest}
 use Rattle.lt_forest.specs.Plans.{Top, top_link, IsSeen, IsPart, IsClosedFor}
 use Rattle.lt_forest.specs.Links.{Slot, row_with, link_in}
 use Rattle.lt_forest.specs.Widenings.{Widens}
-use Rattle.lt_forest.specs.Views.{Agrees, AllHeld, HoldsPart}
+use Rattle.lt_forest.specs.Views.{Agrees, HoldsPart}
 use Rattle.lt_forest.proofs.SameRows.{times-++}
 use Rattle.lt_forest.proofs.PartLaws.{part_lawful}
 use Rattle.lt_forest.proofs.NamedInCuts.{names_in}

@@ -1,7 +1,7 @@
 -- The worked free that is the first of a release, below a row, with the anchor held beside it.
-use Rattle.std.proofs.Common.{◌≡◌, inl, inr, ℕ, zero, suc, ◌<◌, List, [], ◌∷◌, Bool, true, nat_lt, refl, subst, arith, lit<}
+use Rattle.std.proofs.Common.{◌≡◌, inl, inr, ℕ, ◌<◌, List, [], ◌∷◌, Bool, true, nat_lt, refl, subst, arith, lit<}
 use Rattle.std.proofs.lemmas.Bool.Decides.{nat_tests}
-use Rattle.std.specs.Prelude.{codes, Some, None, IsTrue}
+use Rattle.std.specs.Prelude.{codes, Some, None}
 use Rattle.lt_ranges.specs.declared.key.Key.TheVariants.{Bytes}
 use Rattle.lt_ranges.specs.Key.{key_le}
 use Rattle.lt_seq.specs.declared.event.Deed.{Deed}
@@ -11,10 +11,10 @@ use Rattle.lt_seq.specs.Sound.{AllSound}
 use Rattle.lt_seq.specs.History.{after, IsLegal}
 use Rattle.lt_seq.proofs.LawfulLaws.{sound_history}
 use Rattle.lt_forest.specs.Counts.{times}
-use Rattle.lt_forest.specs.Trees.{Node, Nodes}
+use Rattle.lt_forest.specs.Trees.{Node}
 use Rattle.lt_forest.specs.Cuts.{Cut, end, held}
 use Rattle.lt_forest.specs.Plans.{Top, from_row, IsClosedFor, ShowsDeed}
-use Rattle.lt_forest.specs.Views.{IsIn, IsView, AllHeld, PlansModes, from_pool, PlanLays}
+use Rattle.lt_forest.specs.Views.{IsIn, IsView, PlansModes, from_pool, PlanLays}
 use Rattle.lt_forest.specs.WorkedTrees.{at, holds, leads, four, four_forest, with_images, one_buffer, modes_at, low_state, low_events, WorkedFirstFree}
 use Rattle.lt_forest.proofs.WorkedTrees.{images_only, only_zero, four_at}
 use Rattle.lt_forest.proofs.PublicLaws.{plan_serves_deed}

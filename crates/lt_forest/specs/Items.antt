@@ -1,6 +1,6 @@
 -- A part in key order as one list, in which the links that are 0 don't stand. Here a row may stand beside a row, and a
 -- link beside a link, so that rows are put in and left out as in any list.
-use Rattle.std.specs.Prelude.{◌≡◌, ℕ, zero, suc, List, [], ◌∷◌, map, Some, None, Bool, true, if◌then◌else◌}
+use Rattle.std.specs.Prelude.{◌≡◌, ℕ, zero, suc, ◌+◌, List, [], ◌∷◌, map, filter, length, Some, None, Bool, true, if◌then◌else◌}
 use Rattle.lt_ranges.specs.declared.key.Key.{Key}
 use Rattle.lt_ranges.specs.Key.{key_le}
 use Rattle.lt_ranges.specs.Interval.{Interval, IsInterval}
@@ -57,6 +57,14 @@ abbrev pub sift : (PartRow → Bool) → List Item → List Item
 sift keep [] = []
 sift keep (row r ∷ rest) = if keep r then row r ∷ sift keep rest else sift keep rest
 sift keep (hang l ∷ rest) = hang l ∷ sift keep rest
+
+-- In key order the new rows are those that pass the test, and the new hangs those that were, where one of two that come to hang
+-- side by side is 0.
+pub record LeavesOut (keep : PartRow → Bool) (rows : List PartRow) (hangs : List ℕ) (rows' : List PartRow) (hangs' : List ℕ) : Type 0 where
+  pub long : length hangs ≡ length rows + 1
+  pub new_long : length hangs' ≡ length rows' + 1
+  pub new_rows : rows' ≡ filter keep rows
+  pub new_items : items rows' hangs' ≡ sift keep (items rows hangs)
 
 -- the rows' ranges ascend, and the first begins above the bound
 abbrev pub Ascends : Bound → List Item → Type 0

@@ -1,5 +1,5 @@
 -- What is true of parts in key order, so that a plan can be made from its rows and hangs alone.
-use Rattle.std.specs.Prelude.{◌≡◌, ℕ, ◌+◌, List, [], ◌∷◌, ◌++◌, map, length, replicate, None, Bool, true}
+use Rattle.std.specs.Prelude.{◌≡◌, ℕ, ◌+◌, List, [], ◌∷◌, ◌++◌, map, length, replicate, None, Bool, true, false, not, ◌⊎◌}
 use Rattle.lt_ranges.specs.Interval.{Interval, IsInterval, before}
 use Rattle.lt_seq.specs.declared.event.Pair.{Pair}
 use Rattle.lt_seq.specs.Pairs.{IsLawful, is_own, others, freed, count_freed, span, granted}
@@ -10,7 +10,7 @@ use Rattle.lt_forest.specs.Bounds.{Bound, IsAbove, IsBelow}
 use Rattle.lt_forest.specs.Trees.{Nodes, pairs_in}
 use Rattle.lt_forest.specs.Cuts.{Cut, Shows, bare, ends, Looser, AllAside}
 use Rattle.lt_forest.specs.Parts.{rows_of, hangs_of, row_pair, hanging}
-use Rattle.lt_forest.specs.Items.{Item, items, rows_only, first_end, last_end, between, sift, Ascends, MayMerge}
+use Rattle.lt_forest.specs.Items.{Item, items, rows_only, first_end, last_end, between, sift, LeavesOut, Ascends, MayMerge}
 use Rattle.lt_forest.specs.Layouts.{IsLaid, HoldsPlaced}
 use Rattle.lt_forest.specs.Plans.{Top, IsClosedFor, SameRows}
 use Rattle.lt_forest.specs.Widenings.{Widens}
@@ -33,6 +33,36 @@ SameOrderKeeps =
 abbrev pub LeavingOutLoosens : Type 0
 LeavingOutLoosens =
     (keep : PartRow → Bool) (is : List Item) → Ascends None is → Looser (between is None None) (between (sift keep is) None None)
+
+-- so that a free may leave rows out one by one, from the first to the last: a row is kept with the link behind it,
+abbrev pub NoneIsLeftOut : Type 0
+NoneIsLeftOut = (keep : PartRow → Bool) (l : ℕ) → LeavesOut keep [] (l ∷ []) [] (l ∷ [])
+
+abbrev pub OneIsKept : Type 0
+OneIsKept =
+    (keep : PartRow → Bool) (rows rows' : List PartRow) (hangs hangs' : List ℕ) (r : PartRow) (m : ℕ)
+    → LeavesOut keep rows hangs rows' hangs' → keep r ≡ true
+    → LeavesOut keep (rows ++ r ∷ []) (hangs ++ m ∷ []) (rows' ++ r ∷ []) (hangs' ++ m ∷ [])
+
+-- or left out, where the link before it or the one behind it is 0, and the other stays;
+abbrev pub OneIsLeftOut : Type 0
+OneIsLeftOut =
+    (keep : PartRow → Bool) (rows rows' : List PartRow) (hangs hs : List ℕ) (l : ℕ) (r : PartRow) (m : ℕ)
+    → LeavesOut keep rows hangs rows' (hs ++ l ∷ []) → keep r ≡ false → (l ≡ 0) ⊎ (m ≡ 0)
+    → LeavesOut keep (rows ++ r ∷ []) (hangs ++ m ∷ []) rows' (hs ++ (l + m) ∷ [])
+
+-- then no bound is tighter, and the new part shows what was not freed,
+abbrev pub LeftOutLoosens : Type 0
+LeftOutLoosens =
+    (keep : PartRow → Bool) (c d : Nodes) (cut new : Cut) → IsLawful (pairs_in c (bare cut))
+    → LeavesOut keep (rows_of c cut) (hangs_of cut) (rows_of d new) (hangs_of new)
+    → Looser (ends c cut None None) (ends d new None None)
+
+abbrev pub LeftOutIsFreed : Type 0
+LeftOutIsFreed =
+    (txn : ℕ) (range : Interval) (c d : Nodes) (cut new : Cut)
+    → LeavesOut (λ r. not (is_own txn range (row_pair r))) (rows_of c cut) (hangs_of cut) (rows_of d new) (hangs_of new)
+    → pairs_in d (bare new) ≡ freed txn range (pairs_in c (bare cut))
 
 -- and none where a run of rows becomes one, if all that hangs is aside of the range
 abbrev pub MergingLoosens : Type 0
@@ -59,6 +89,16 @@ MergedRunLoosens =
     → rows_of c cut ≡ ahead ++ (r ∷ run ++ behind) → hangs_of cut ≡ ls ++ (replicate (length run) 0 ++ ms)
     → length ls ≡ length ahead + 1 → rows_of d new ≡ ahead ++ one ∷ behind → hangs_of new ≡ ls ++ ms
     → Looser (ends c cut None None) (ends d new None None)
+
+-- and shows the ask's grant where the run is all that overlaps, and the transaction's,
+abbrev pub MergedRunIsGranted : Type 0
+MergedRunIsGranted =
+    (txn : ℕ) (range : Interval) (ahead run behind : List PartRow) (one : PartRow)
+    → IsInterval range → IsLawful (map row_pair (ahead ++ (run ++ behind))) → IsAbove (last_end ahead None) range.left
+    → IsBelow (first_end behind None) range.right → ((p : Pair) → Has p (map row_pair run) → is_own txn range p ≡ true)
+    → one.owner ≡ txn → one.range ≡ span txn range (map row_pair run)
+    → (others txn range (map row_pair (ahead ++ (run ++ behind))) ≡ [])
+    × (granted txn range (map row_pair (ahead ++ (run ++ behind))) ≡ map row_pair (ahead ++ one ∷ behind))
 
 -- and where the range overlaps no row, a row may be put in where it has its place.
 abbrev pub PutInLoosens : Type 0

@@ -11,9 +11,9 @@ use Rattle.lt_forest.specs.declared.part.PartRow.{PartRow}
 use Rattle.lt_forest.specs.Counts.{times}
 use Rattle.lt_forest.specs.Bounds.{Gap, IsAbove, IsBelow}
 use Rattle.lt_forest.specs.Trees.{Nodes, in_order, pairs_in}
-use Rattle.lt_forest.specs.Cuts.{Cut, Shows, bare, IsRow, End, ends, HasEnd, IsAside}
+use Rattle.lt_forest.specs.Cuts.{Cut, Shows, bare, IsRow, End, ends, HasEnd, IsAside, AllAside}
 use Rattle.lt_forest.specs.Visits.{IsVisited, Reaches}
-use Rattle.lt_forest.specs.Parts.{rows_of, hangs_of}
+use Rattle.lt_forest.specs.Parts.{rows_of, hangs_of, hanging}
 use Rattle.lt_forest.specs.Items.{items, first_end, last_end, Ascends}
 use Rattle.lt_forest.specs.Forest.{Forest, chain, IsTree, IsForest, GapIn}
 use Rattle.lt_forest.specs.Plans.{Top, top_link, IsInGap, IsSeen, IsPart, IsClosedFor}
@@ -73,6 +73,12 @@ HeldWidenedIsClosed =
     → IsForest trees rows c mode state f → AllSound state → t < trees → IsTree (mode t) → IsSeen c (f.tree t) top
     → Agrees (IsIn has) v c → HoldsPart (IsIn has) t top v cut → IsIn has r → IsClosedFor range top v cut
     → IsClosedFor range top v w.wider
+
+-- A part is closed where all that hangs in it in key order is aside.
+abbrev pub AsideIsClosed : Type 0
+AsideIsClosed =
+    (c : Nodes) (top : Top) (cut : Cut) (range : Interval) → IsInGap top range
+    → AllAside range (hanging (rows_of c cut) (hangs_of cut) None None) → IsClosedFor range top c cut
 
 -- In a closed part nothing hangs between two rows that overlap the range,
 abbrev pub NoneHangsBetween : Type 0

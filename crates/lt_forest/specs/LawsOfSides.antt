@@ -1,6 +1,6 @@
 -- What is true of parts that hang on one side of a held row, without that row and with it, and of layouts. Where a law speaks of
 -- any rows, it serves for the true ones and for what a pass shows.
-use Rattle.std.specs.Prelude.{◌≡◌, ◌≢◌, ℕ, ◌+◌, ◌<◌, List, [], ◌∷◌, true, None, Bool}
+use Rattle.std.specs.Prelude.{◌≡◌, ℕ, ◌<◌, List, [], ◌∷◌, None, Bool}
 use Rattle.lt_ranges.specs.Interval.{Interval, IsInterval}
 use Rattle.lt_seq.specs.declared.event.Mode.{Mode}
 use Rattle.lt_seq.specs.declared.event.Mode.TheVariants.{Tree as TreeMode}
@@ -40,6 +40,11 @@ HeldSideIsPart =
 -- In key order it has the row more, with the link on its other side.
 abbrev pub SideAddsTheRow : Type 0
 SideAddsTheRow = (c : Nodes) (s : Slot) (part : Cut) → AddsTheRow c s part
+
+-- Its pairs are lawful where those of the part with the row are.
+abbrev pub SideIsLawful : Type 0
+SideIsLawful =
+    (c : Nodes) (s : Slot) (part : Cut) → IsLawful (pairs_in c (bare (around c s part))) → IsLawful (pairs_in c (bare part))
 
 -- Where all that hangs in the part is aside of a range on this side, the part with the row is closed for it.
 abbrev pub SideIsClosed : Type 0

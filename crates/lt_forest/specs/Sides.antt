@@ -2,7 +2,6 @@
 -- which side of it they hang.
 use Rattle.std.specs.Prelude.{◌≡◌, ℕ, List, [], ◌∷◌, ◌++◌, true}
 use Rattle.lt_ranges.specs.Interval.{Interval, before}
-use Rattle.lt_seq.specs.declared.event.Pair.{Pair}
 use Rattle.lt_seq.specs.Pairs.{others, freed, count_freed, granted}
 use Rattle.lt_forest.specs.Trees.{Nodes, pair_of, pairs_in}
 use Rattle.lt_forest.specs.Cuts.{Cut, end, held, bare}

@@ -1,5 +1,5 @@
 -- Where a search for a range goes from a row.
-use Rattle.std.specs.Prelude.{◌≡◌, ◌⊎◌, ℕ, zero, suc, Bool, true, not}
+use Rattle.std.specs.Prelude.{◌≡◌, ◌⊎◌, zero, suc, Bool, true, not}
 use Rattle.lt_ranges.specs.Key.{key_le}
 use Rattle.lt_ranges.specs.Interval.{Interval}
 use Rattle.lt_forest.specs.Bounds.{Bound}

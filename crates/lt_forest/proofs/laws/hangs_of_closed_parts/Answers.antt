@@ -1,4 +1,4 @@
-use Rattle.lt_forest.proofs.PublicLaws.{none_hangs_between, none_hangs_there, reached_are_not_aside, closed_is_visited}
+use Rattle.lt_forest.proofs.PublicLaws.{none_hangs_between, none_hangs_there, reached_are_not_aside, closed_is_visited, aside_is_closed}
 use Rattle.lt_forest.proofs.laws.hangs_of_closed_parts.Goals as goal
 
 pub returns : goal.returns
@@ -7,4 +7,5 @@ returns c = record {
   there = none_hangs_there;
   reached = reached_are_not_aside;
   visited = closed_is_visited;
+  aside = aside_is_closed;
 }
