@@ -92,3 +92,78 @@ fn ranges_stand_to_each_other(rt: HostRuntime) {
     }
     assert!(rt; range(b"c", b"a").is_none());
 }
+
+#[test]
+fn packed_keys_in_order(rt: HostRuntime) {
+    let abc = 0x6162_6300_0000_0000;
+    let ends = 0x6162_63ff_ffff_ffff;
+    let full = u64::MAX;
+    let rows = [
+        (b"-".as_slice(), [0; 8]),
+        (b"\"\"", [0, 0, 0, 0, 0, 0, 0, 1]),
+        (b"\"abc\"", [abc, 0, 0, 0, 0, 0, 0, 4]),
+        (
+            b"\"abc\"*",
+            [
+                ends,
+                full,
+                full,
+                full,
+                full,
+                full,
+                full,
+                0xffff_ffff_ffff_fffb,
+            ],
+        ),
+        (
+            b"\"\"*",
+            [
+                full,
+                full,
+                full,
+                full,
+                full,
+                full,
+                full,
+                0xffff_ffff_ffff_fffe,
+            ],
+        ),
+        (b"+", [full; 8]),
+    ];
+    let mut last = None;
+    for (text, words) in rows {
+        let key = Key::read(text).ok();
+        assert_eq!(rt; key.map(|key| key.pack()), Some(words), "{text:?}");
+        assert_eq!(rt; Key::unpack(words), key, "{text:?}");
+        assert!(rt; last < Some(words), "{text:?}");
+        last = Some(words);
+    }
+}
+
+#[test]
+fn words_of_no_key_are_refused(rt: HostRuntime) {
+    let full = u64::MAX;
+    let refused = [
+        // no key has the codes from 65 to 190
+        [0, 0, 0, 0, 0, 0, 0, 65],
+        [0, 0, 0, 0, 0, 0, 0, 190],
+        [
+            full,
+            full,
+            full,
+            full,
+            full,
+            full,
+            full,
+            0xffff_ffff_ffff_ffbe,
+        ],
+        // other bytes than those of the code
+        [1, 0, 0, 0, 0, 0, 0, 0],
+        [0, 0, 0, 0, 0, 0, 0x0100, 1],
+        [0, 0, 0, 0, 0, 0, 0, 254],
+        [0, 0, 0, 0, 0, 0, 0, 255],
+    ];
+    for words in refused {
+        assert_eq!(rt; Key::unpack(words), None, "{words:?}");
+    }
+}
