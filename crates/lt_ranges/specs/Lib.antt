@@ -2,6 +2,7 @@ pub mod ByteStore
 pub mod Key
 pub mod KeyOrder
 pub mod Interval
+pub mod Short
 pub mod RangeOrder
 pub mod KeyText
 pub mod Packing

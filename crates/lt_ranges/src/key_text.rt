@@ -1,5 +1,10 @@
 //! The text of a key, in a store of fixed size.
-ghost use Rattle.std.specs.Prelude.{◌≡◌, ◌+◌, ◌<◌, ◌≤◌, [], ◌∷◌, ◌++◌, length};
+ghost use Rattle.std.specs.Prelude.{◌≡◌, ◌+◌, ◌<◌, ◌≤◌, [], ◌∷◌, ◌++◌, length, nat_eq};
+ghost use Rattle.std.specs.Cmp.{partial_equiv_from_equiv};
+ghost use Rattle.std.specs.Cmp.Lexicographic.{pointwise, nat_list_eq_equiv};
+ghost use Rattle.std.specs.Cmp.Rules.{hashing};
+ghost use Rattle.std.specs.Hash as fed;
+ghost use Rattle.std.proofs.Common.{rules};
 ghost use Rattle.lt_ranges.specs.KeyText.{byte_text, quoted};
 ghost use Rattle.lt_ranges.specs.Numbers.{AreBytes};
 
@@ -7,6 +12,7 @@ use crate::byte_store::ByteStore;
 use crate::byte_text;
 use crate::key_bytes::KeyBytes;
 use std::fmt;
+use std::hash::{Hash, Hasher};
 use std::marker::Model;
 
 /// The most bytes of a key's text: 63 bytes of four characters each, two quotation marks and a star.
@@ -83,6 +89,40 @@ impl KeyText {
         ensures bound { length self.now ≤ 255 }
     {
         self.store.as_slice()
+    }
+}
+
+impl PartialEq for KeyText {
+    ghost eq = { pointwise nat_eq };
+
+    ghost laws = { partial_equiv_from_equiv nat_list_eq_equiv };
+
+    fn eq(&self, other: &Self) -> bool {
+        self.as_slice() == other.as_slice()
+    }
+}
+
+impl Eq for KeyText {
+    ghost laws = { nat_list_eq_equiv };
+}
+
+impl Hash for KeyText {
+    ghost hash_input = { λ t. fed.slice fed.u8 t };
+
+    ghost respects_eq = { Prim.search (hashing, rules) };
+
+    fn hash<H: Hasher>(&self, state: &mut H) {
+        self.as_slice().hash(state);
+    }
+}
+
+/// The text, character by character. Each of its bytes is one.
+impl fmt::Display for KeyText {
+    fn fmt<W: fmt::Write>(&self, f: &mut fmt::Formatter<W>) -> fmt::Result {
+        for character in self.as_slice() {
+            f.write_char(char::from(*character))?;
+        }
+        Ok(())
     }
 }
 

@@ -6,16 +6,17 @@ ghost use Rattle.lt_ranges.specs.RangeOrder.{IsOrderOf};
 
 use crate::key::Key;
 use crate::range_order::RangeOrder;
+use std::fmt;
 use std::marker::Model;
 use thiserror::Error;
 
 /// The left end of a range was greater than its right one.
-#[derive(Clone, Copy, Debug, PartialEq, Eq, Error)]
+#[derive(Clone, Copy, Debug, PartialEq, Eq, Hash, Error)]
 #[error("the left end is greater than the right one")]
 pub struct Backwards;
 
 /// The keys from a left end to a right one, both included.
-#[derive(Clone, Copy, Debug, PartialEq, Eq)]
+#[derive(Clone, Copy, Debug, PartialEq, Eq, Hash)]
 pub struct KeyRange {
     left: Key,
     right: Key,
@@ -116,5 +117,12 @@ impl KeyRange {
         } else {
             RangeOrder::Greater
         }
+    }
+}
+
+/// The texts of the left end and of the right one, with a space between.
+impl fmt::Display for KeyRange {
+    fn fmt<W: fmt::Write>(&self, f: &mut fmt::Formatter<W>) -> fmt::Result {
+        write!(f, "{} {}", self.left, self.right)
     }
 }

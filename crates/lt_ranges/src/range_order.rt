@@ -1,7 +1,7 @@
 //! How two ranges stand to each other.
 
 /// How one range stands to another.
-#[derive(Clone, Copy, Debug, PartialEq, Eq)]
+#[derive(Clone, Copy, Debug, PartialEq, Eq, Hash)]
 pub enum RangeOrder {
     /// They are the same range.
     Equal,

@@ -167,3 +167,17 @@ fn words_of_no_key_are_refused(rt: HostRuntime) {
         assert_eq!(rt; Key::unpack(words), None, "{words:?}");
     }
 }
+
+#[test]
+fn keys_and_ranges_are_shown_as_their_texts(rt: HostRuntime) {
+    let range = Key::read(b"\"a\\x00\"")
+        .ok()
+        .zip(Key::read(b"\"a\"*").ok())
+        .and_then(|(left, right)| KeyRange::new(left, right).ok());
+    let shown = range.map(|range| format!(in rt.alloc(); "{range}"));
+    let text = shown
+        .as_ref()
+        .and_then(|shown| shown.as_ref().ok())
+        .map(|shown| shown.as_str());
+    assert_eq!(rt; text, Some("\"a\\x00\" \"a\"*"));
+}

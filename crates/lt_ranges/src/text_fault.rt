@@ -2,7 +2,7 @@
 use thiserror::Error;
 
 /// Why a text is not read as a key.
-#[derive(Clone, Copy, Debug, PartialEq, Eq, Error)]
+#[derive(Clone, Copy, Debug, PartialEq, Eq, Hash, Error)]
 pub enum TextFault {
     /// It is the text of no key.
     #[error("not the text of a key")]
