@@ -1,5 +1,5 @@
 -- Ranges written short, for worked examples.
-use Rattle.std.specs.Prelude.{ℕ, List}
+use Rattle.std.specs.Prelude.{ℕ, List, [], ◌∷◌}
 use Rattle.lt_ranges.specs.declared.key.Key.{Key}
 use Rattle.lt_ranges.specs.declared.key.Key.TheVariants.{Bytes}
 use Rattle.lt_ranges.specs.Interval.{Interval}
@@ -15,3 +15,7 @@ from_to left right = between (Bytes left) (Bytes right)
 -- one byte string alone
 abbrev pub at : List ℕ → Interval
 at key = from_to key key
+
+-- from a string of one byte to another
+abbrev pub letters : ℕ → ℕ → Interval
+letters left right = from_to (left ∷ []) (right ∷ [])

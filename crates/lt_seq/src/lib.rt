@@ -15,6 +15,7 @@ pub mod yard;
 pub use event::{Deed, Event, Held, JoinNote, Look, Mode, Pair, Receipt, Reply};
 pub use fault::Fault;
 pub use lists::{HeldList, Owners};
+pub use pairs::{add_held, grant};
 pub use plan::YardPlan;
 pub use seq_yard::SeqYard;
 pub use yard::{Closed, Pass, Yard};

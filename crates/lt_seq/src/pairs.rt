@@ -54,7 +54,7 @@ fn place_for(pairs: &[Pair], left: &Key) -> usize
 }
 
 /// Gives the range to the transaction, joined with its ranges that overlap. Where memory is short the pairs stay.
-pub(crate) fn grant(pairs: &mut Vec<Pair>, txn: u64, range: &KeyRange) -> Result<(), AllocError>
+pub fn grant(pairs: &mut Vec<Pair>, txn: u64, range: &KeyRange) -> Result<(), AllocError>
     ensures ok { OnOk result (pairs.new.items ≡ granted txn range.now pairs.old.items) }
     ensures err { OnErr result (pairs.new.items ≡ pairs.old.items) }
 {
@@ -95,7 +95,7 @@ pub(crate) fn others_of(
 }
 
 /// Puts the pairs of a tree behind those of the trees below it.
-pub(crate) fn add_held(left: &mut Vec<Held>, tree: u32, pairs: &[Pair]) -> Result<(), AllocError>
+pub fn add_held(left: &mut Vec<Held>, tree: u32, pairs: &[Pair]) -> Result<(), AllocError>
     ensures { OnOk result (left.new.items ≡ left.old.items ++ held_in tree pairs.now) }
 {
     for pair in pairs {

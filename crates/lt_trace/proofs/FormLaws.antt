@@ -3,6 +3,7 @@ use Rattle.std.proofs.Common.{◌≡◌, ℕ, ◌^◌, ◌<◌, List, [], ◌∷
 use Rattle.std.proofs.lemmas.Fmt.{decimal_injective}
 use Rattle.lt_ranges.specs.declared.key.Key.{Key}
 use Rattle.lt_ranges.specs.Interval.{Interval}
+use Rattle.lt_ranges.specs.Short.{between}
 use Rattle.lt_ranges.specs.KeyText.{key_text, range_text}
 use Rattle.lt_ranges.proofs.KeyTextLaws.{text_once}
 use Rattle.lt_trace.specs.declared.line.Line.{Line}
@@ -50,9 +51,6 @@ deed_lacks version End form = lacks_by_test 10 (codes " end") refl
 deed_lacks version Abort form = absurd form
 deed_lacks version (Escalate tree) form = absurd form
 deed_lacks version Big form = absurd form
-
-abbrev between : Key → Key → Interval
-between left right = record { left = left; right = right }
 
 -- two ranges of one text are the same
 range_once : (version : ℕ) (a b : Interval) → IsRangeForm version a → IsRangeForm version b → range_text a ≡ range_text b → a ≡ b

@@ -2,6 +2,7 @@ use Rattle.std.proofs.Common.{ℕ, List, [], ◌∷◌, ◌<◌, codes, refl, li
 use Rattle.std.specs.Fmt.{digits}
 use Rattle.std.proofs.lemmas.List.Elements.{All-from_recursion}
 use Rattle.lt_ranges.specs.Key.{key_le}
+use Rattle.lt_ranges.specs.Short.{letters}
 use Rattle.lt_ranges.specs.declared.key.Key.TheVariants.{Bytes}
 use Rattle.lt_trace.specs.declared.line.Line.{Line}
 use Rattle.lt_trace.specs.declared.line.LineDeed.TheVariants.{Try, End}
@@ -18,7 +19,7 @@ ended : Line
 ended = record { txn = 1; number = 5; deed = End }
 
 tried : ℕ → ℕ → ℕ → Line
-tried tree a b = record { txn = 1; number = 5; deed = Try tree (record { left = Bytes (a ∷ []); right = Bytes (b ∷ []) }) }
+tried tree a b = record { txn = 1; number = 5; deed = Try tree (letters a b) }
 
 is_header : IsFront (header [])
 unfolding header
