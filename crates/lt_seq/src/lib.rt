@@ -7,6 +7,7 @@ pub mod laws;
 pub mod lists;
 pub(crate) mod pairs;
 pub mod plan;
+pub mod runs;
 pub mod seq_pass;
 pub(crate) mod seq_tree;
 pub mod seq_yard;
@@ -17,6 +18,7 @@ pub use fault::Fault;
 pub use lists::{HeldList, Owners};
 pub use pairs::{add_held, grant};
 pub use plan::YardPlan;
+pub use runs::{JoinCounts, join_pairs};
 pub use seq_yard::SeqYard;
 pub use yard::{Closed, Pass, Yard};
 
