@@ -1,8 +1,11 @@
 -- Laws of the plain pass.
-use Rattle.std.proofs.Common.{◌≡◌, suc, ◌+◌, ◌^◌, ◌<◌, ◌≤◌, List, [], ◌∷◌, ◌++◌, length, slice_set, map, refl, sym, ap, subst, ◌∙◌, arith, length-append}
+use Rattle.std.proofs.Common.{◌≡◌, ℕ, suc, ◌+◌, ◌^◌, ◌<◌, ◌≤◌, List, [], ◌∷◌, ◌++◌, length, slice_set, map, refl, sym, ap, subst, ◌∙◌, arith, length-append}
+use Rattle.lt_seq.specs.declared.event.JoinNote.{JoinNote}
 use Rattle.lt_seq.specs.declared.event.Receipt.{Receipt}
 use Rattle.lt_seq.specs.declared.plan.YardPlan.{YardPlan}
 use Rattle.lt_seq.specs.Table.{Setting, TreeState, step, tree_at, tree_of, tree_after, replied, used}
+use Rattle.lt_seq.specs.Pairs.{IsLawful}
+use Rattle.lt_seq.proofs.LawfulLaws.{sound_history}
 use Rattle.lt_seq.proofs.TableLaws.{length-after, used_most}
 use Rattle.lt_seq.specs.History.{after, IsNext, IsLegal, IsQuestion, calls_from}
 use Rattle.lt_seq.proofs.HistoryLaws.{after_more, legal_more, calls_more}
@@ -13,8 +16,13 @@ use Rattle.lt_seq.specs.Questions.{events_of}
 use Rattle.lt_seq.specs.SeqPass.{plain, alone_view, origin_in, Planned, IsSequential}
 
 -- as many trees as the plan says
-pub trees_there : (plan : YardPlan) (trees : List TreeState) (mine : List Receipt) → IsSequential plan trees mine → length trees ≡ plan.trees
-trees_there plan trees mine seq = ap length seq.trees ∙ length-after (plain plan) (events_of mine)
+pub trees_there : (plan : YardPlan) (rights : ℕ) (trees : List TreeState) (mine : List Receipt) → IsSequential plan rights trees mine → length trees ≡ plan.trees
+trees_there plan rights trees mine seq = ap length seq.trees ∙ length-after (plain plan) (events_of mine)
+
+-- and each has lawful pairs
+pub lawful_there : (plan : YardPlan) (rights : ℕ) (trees : List TreeState) (mine : List Receipt) (tree : ℕ) → IsSequential plan rights trees mine → IsLawful (tree_at trees tree).pairs
+lawful_there plan rights trees mine tree seq =
+    subst (λ ts. IsLawful (tree_at ts tree).pairs) (sym seq.trees) (sound_history (plain plan) (events_of mine) seq.legal tree).lawful
 
 pub length-events_of : (mine : List Receipt) → length (events_of mine) ≡ length mine
 length-events_of [] = refl
@@ -24,12 +32,12 @@ events_of-append : (mine : List Receipt) (r : Receipt) → events_of (mine ++ r 
 events_of-append [] r = refl
 events_of-append (x ∷ xs) r = ap (λ l. x.event ∷ l) (events_of-append xs r)
 
-pub sound_of : (plan : YardPlan) (trees : List TreeState) (mine : List Receipt) → IsSequential plan trees mine → IsSound (plain plan) (alone_view mine)
-sound_of plan trees mine seq = record { legal = seq.legal; mine = seq.mine }
+pub sound_of : (plan : YardPlan) (rights : ℕ) (trees : List TreeState) (mine : List Receipt) (notes : List JoinNote) → IsSequential plan rights trees mine → IsSound (plain plan) (alone_view rights mine notes)
+sound_of plan rights trees mine notes seq = record { legal = seq.legal; mine = seq.mine }
 
 -- the rows in use are few enough
-pub used_fits : (plan : YardPlan) (trees : List TreeState) (mine : List Receipt) → IsSequential plan trees mine → used trees ≤ 2 ^ 39
-used_fits plan trees mine seq =
+pub used_fits : (plan : YardPlan) (rights : ℕ) (trees : List TreeState) (mine : List Receipt) → IsSequential plan rights trees mine → used trees ≤ 2 ^ 39
+used_fits plan rights trees mine seq =
     omega (arith, ap used seq.trees, used_most (plain plan) (events_of mine) seq.legal, length-events_of mine, seq.room)
 
 -- a deed at a tree, with its replies, and what it leaves there
@@ -43,10 +51,10 @@ pub record MadeAt (plan : YardPlan) (trees : List TreeState) (mine : List Receip
   pub moved_is : moved ≡ tree_after (plain plan) receipt.event.txn receipt.event.deed (tree_at trees (tree_of receipt.event.deed))
 
 -- the invariant after one event more
-pub sequential_more : (plan : YardPlan) (trees : List TreeState) (mine : List Receipt) (receipt : Receipt) (moved : TreeState) →
-    IsSequential plan trees mine → MadeAt plan trees mine receipt moved →
-    IsSequential plan (slice_set trees (tree_of receipt.event.deed) moved) (mine ++ receipt ∷ [])
-sequential_more plan trees mine receipt moved seq made =
+pub sequential_more : (plan : YardPlan) (rights : ℕ) (trees : List TreeState) (mine : List Receipt) (receipt : Receipt) (moved : TreeState) →
+    IsSequential plan rights trees mine → MadeAt plan trees mine receipt moved →
+    IsSequential plan rights (slice_set trees (tree_of receipt.event.deed) moved) (mine ++ receipt ∷ [])
+sequential_more plan rights trees mine receipt moved seq made =
     let e = receipt.event in
     let events = events_of-append mine receipt in
     let next : IsNext (plain plan) (after (plain plan) (events_of mine)) e =
@@ -54,6 +62,7 @@ sequential_more plan trees mine receipt moved seq made =
     record {
       plan = seq.plan;
       passes = seq.passes;
+      rights_most = seq.rights_most;
       trees =
           ap (λ t. slice_set trees (tree_of e.deed) t) made.moved_is
           ∙ ap (λ ts. step (plain plan) ts e) seq.trees
@@ -68,15 +77,15 @@ sequential_more plan trees mine receipt moved seq made =
       room = omega (arith, length-append mine (receipt ∷ []), made.room, made.place);
     }
 
-pub sequential_to : (plan : YardPlan) (trees new_trees : List TreeState) (mine new_mine : List Receipt) (receipt : Receipt) (moved : TreeState) →
-    IsSequential plan trees mine → MadeAt plan trees mine receipt moved →
-    new_trees ≡ slice_set trees (tree_of receipt.event.deed) moved → new_mine ≡ mine ++ receipt ∷ [] → IsSequential plan new_trees new_mine
-sequential_to plan trees new_trees mine new_mine receipt moved seq made ts ms =
-    subst (λ ts. IsSequential plan ts new_mine) (sym ts) (subst (λ ms. IsSequential plan (slice_set trees (tree_of receipt.event.deed) moved) ms) (sym ms) (sequential_more plan trees mine receipt moved seq made))
+pub sequential_to : (plan : YardPlan) (rights : ℕ) (trees new_trees : List TreeState) (mine new_mine : List Receipt) (receipt : Receipt) (moved : TreeState) →
+    IsSequential plan rights trees mine → MadeAt plan trees mine receipt moved →
+    new_trees ≡ slice_set trees (tree_of receipt.event.deed) moved → new_mine ≡ mine ++ receipt ∷ [] → IsSequential plan rights new_trees new_mine
+sequential_to plan rights trees new_trees mine new_mine receipt moved seq made ts ms =
+    subst (λ ts. IsSequential plan rights ts new_mine) (sym ts) (subst (λ ms. IsSequential plan rights (slice_set trees (tree_of receipt.event.deed) moved) ms) (sym ms) (sequential_more plan rights trees mine receipt moved seq made))
 
 -- a list with one pass at its end
 last_of : (plan : YardPlan) (before : List Planned) (pass : Planned) → AllByRecursion (λ p. origin_in p ≡ origin_of [] (plain plan)) (before ++ pass ∷ []) → pass.plan ≡ plan
-last_of plan [] pass all = ap (λ o. o.plan) all.0
+last_of plan [] pass all = ap (λ o. o.setting.plan) all.0
 last_of plan (p ∷ ps) pass all = last_of plan ps pass all.1
 
 only_of : (plan : YardPlan) (before : List Planned) (pass : Planned) → plan.passes ≡ 1 → map (λ v. v.number) (map (λ p. p.view) (before ++ pass ∷ [])) ≡ numbers_from 0 plan.passes → map (λ p. p.view) (before ++ pass ∷ []) ≡ pass.view ∷ []

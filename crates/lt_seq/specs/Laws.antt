@@ -18,10 +18,10 @@ use Rattle.lt_seq.specs.Sound.{IsLawfulTable}
 use Rattle.lt_seq.specs.KeepsLocks.{KeepsLocks}
 use Rattle.lt_seq.specs.Table.{Setting, TreeState, opening, step, tree_at, used}
 use Rattle.lt_seq.specs.History.{after, IsLegal, IsNext, calls_from}
-use Rattle.lt_seq.specs.Yard.{PassView, HasAll, Answers, AskAnswers, place_after, places_end}
+use Rattle.lt_seq.specs.Yard.{PassView, NoteView, HasAll, Answers, AskAnswers, place_after, places_end}
 use Rattle.lt_seq.specs.Passes.{RightsAndFronts, opening_passes, IsInOneList}
 use Rattle.lt_seq.specs.Questions.{all_receipts}
-use Rattle.lt_seq.specs.Alone.{AloneAnswers, AloneAskAnswers, IsDone}
+use Rattle.lt_seq.specs.Alone.{AloneAnswers, AloneAskAnswers, IsDone, IsDoneOrOutOfLocks}
 
 -- a legal history and a next event are a legal history
 abbrev pub OneMoreIsLegal : Type 0
@@ -92,13 +92,13 @@ LegalHistoriesKeepLocks = (setting : Setting) (history : List Event) → IsLegal
 
 -- the passes of a fresh table share its rights, and have seen nothing
 abbrev pub OpeningSharesRights : Type 0
-OpeningSharesRights = (setting : Setting) → 1 ≤ setting.plan.passes → RightsAndFronts setting [] (opening_passes setting.plan.passes)
+OpeningSharesRights = (setting : Setting) → 1 ≤ setting.plan.passes → RightsAndFronts setting [] (opening_passes setting.plan.passes) []
 
 -- a pass that has all the rights has seen the whole history
 abbrev pub AllRightsSeeAll : Type 0
 AllRightsSeeAll =
-    (setting : Setting) (history : List Event) (views : List PassView) (view : PassView) → RightsAndFronts setting history views
-    → Contains views view → HasAll setting view → view.front ≡ history
+    (setting : Setting) (history : List Event) (passes : List PassView) (notes : List NoteView) (pass : PassView)
+    → RightsAndFronts setting history passes notes → Contains passes pass → HasAll setting pass → pass.front ≡ history
 
 -- each receipt of a legal history is in the list of its pass and in no other
 abbrev pub EachIsInOneList : Type 0
@@ -119,23 +119,31 @@ ListsAscend = (place pass : ℕ) (history : List Event) → IsStrictlyIncreasing
 -- what an ask answers to a pass that has all the rights
 abbrev pub AsksAreAtOnce : Type 0
 AsksAreAtOnce =
-    (setting : Setting) (old new : PassView) (txn : ℕ) (deed : Deed) (result : Result Receipt Fault) → AskAnswers setting old new txn deed result
-    → HasAll setting old → AloneAskAnswers setting old new txn deed result
+    (setting : Setting) (bar : ℕ) (old new : PassView) (txn : ℕ) (deed : Deed) (result : Result Receipt Fault)
+    → AskAnswers setting bar old new txn deed result → HasAll setting old → AloneAskAnswers setting bar old new txn deed result
 
 -- and what any other call does
 abbrev pub CallsAreAtOnce : Type 0
 CallsAreAtOnce =
-    (setting : Setting) (old new : PassView) (txn : ℕ) (deed : Deed) (result : Result Receipt Fault) → Answers setting old new txn deed result
-    → HasAll setting old → AloneAnswers setting old new txn deed result
+    (setting : Setting) (old new : PassView) (txn : ℕ) (deed : Deed) (result : Result Receipt Fault)
+    → Answers setting old new txn deed result → HasAll setting old → AloneAnswers setting old new txn deed result
 
--- where there is a place and a row below the limit, an ask makes its event unless memory is short
+-- where there is a place and a row below the bar, an ask makes its event unless memory is short
 abbrev pub AsksAreDone : Type 0
 AsksAreDone =
-    (setting : Setting) (old new : PassView) (txn : ℕ) (deed : Deed) (result : Result Receipt Fault) → AskAnswers setting old new txn deed result
-    → HasAll setting old → place_after setting old.front < places_end → used (after setting old.front) < setting.plan.limit → IsDone result
+    (setting : Setting) (bar : ℕ) (old new : PassView) (txn : ℕ) (deed : Deed) (result : Result Receipt Fault)
+    → AskAnswers setting bar old new txn deed result → HasAll setting old
+    → place_after setting old.front < places_end → used (after setting old.front) < bar → IsDone result
 
--- where there is a place, any other call does
+-- where there are places for joins of all trees and for its event, it makes its event or is out of locks, unless memory is short
+abbrev pub FullAsksAreDone : Type 0
+FullAsksAreDone =
+    (setting : Setting) (bar : ℕ) (old new : PassView) (txn : ℕ) (deed : Deed) (result : Result Receipt Fault)
+    → AskAnswers setting bar old new txn deed result → HasAll setting old
+    → place_after setting old.front + setting.plan.trees < places_end → IsDoneOrOutOfLocks result
+
+-- where there is a place, any other call makes its event
 abbrev pub CallsAreDone : Type 0
 CallsAreDone =
-    (setting : Setting) (old new : PassView) (txn : ℕ) (deed : Deed) (result : Result Receipt Fault) → Answers setting old new txn deed result
-    → HasAll setting old → place_after setting old.front < places_end → IsDone result
+    (setting : Setting) (old new : PassView) (txn : ℕ) (deed : Deed) (result : Result Receipt Fault)
+    → Answers setting old new txn deed result → HasAll setting old → place_after setting old.front < places_end → IsDone result

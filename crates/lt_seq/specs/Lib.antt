@@ -10,4 +10,5 @@ pub mod Questions
 pub mod Joins
 pub mod KeepsLocks
 pub mod SeqPass
+pub mod SeqCalls
 pub mod Laws

@@ -1,13 +1,12 @@
 -- What the pass of a plain table keeps.
-use Rattle.std.specs.Prelude.{◌≡◌, ℕ, ◌+◌, ◌≤◌, List, [], length, map}
-use Rattle.lt_seq.specs.declared.event.Held.{Held}
-use Rattle.lt_seq.specs.declared.event.Pair.{Pair}
+use Rattle.std.specs.Prelude.{◌≡◌, ℕ, ◌+◌, ◌≤◌, List, [], length}
+use Rattle.lt_seq.specs.declared.event.JoinNote.{JoinNote}
 use Rattle.lt_seq.specs.declared.event.Receipt.{Receipt}
 use Rattle.lt_seq.specs.declared.plan.YardPlan.{YardPlan}
 use Rattle.lt_seq.specs.Table.{Setting, TreeState}
 use Rattle.lt_seq.specs.History.{after, IsLegal, calls_from}
 use Rattle.lt_seq.specs.Questions.{events_of}
-use Rattle.lt_seq.specs.Yard.{IsPlan, Origin, PassView, places_end}
+use Rattle.lt_seq.specs.Yard.{IsPlan, Origin, PassView, NoteView, places_end}
 
 -- no marks are set
 abbrev pub plain : YardPlan → Setting
@@ -20,21 +19,27 @@ pub record Planned : Type 0 where
 
 -- a yard of one pass needs no name
 abbrev pub origin_in : Planned → Origin
-origin_in pass = record { identity = []; plan = pass.plan }
+origin_in pass = record { identity = []; setting = plain pass.plan }
 
--- The one pass has all the rights, meets no other, and its own calls are the whole history.
-abbrev pub alone_view : List Receipt → PassView
-alone_view made = record { number = 0; rights = 1; met = 0; met_row = 0; met_holder = 0; front = events_of made; mine = made; notes = [] }
+-- The one pass meets no other, and its own calls are the whole history.
+abbrev pub alone_view : ℕ → List Receipt → List JoinNote → PassView
+alone_view rights made notes =
+    record { number = 0; rights = rights; met = 0; met_row = 0; met_holder = 0; front = events_of made; mine = made; notes = notes }
+
+-- a note with the plan of its yard: it tells the one pass nothing new
+pub record PlannedNote : Type 0 where
+  pub plan : YardPlan
+  pub view : NoteView
+
+abbrev pub note_origin : PlannedNote → Origin
+note_origin note = record { identity = []; setting = plain note.plan }
 
 -- the trees are those after the pass's own events
-pub record IsSequential (sizes : YardPlan) (now : List TreeState) (made : List Receipt) : Type 0 where
+pub record IsSequential (sizes : YardPlan) (rights : ℕ) (now : List TreeState) (made : List Receipt) : Type 0 where
   pub plan : IsPlan sizes
   pub passes : sizes.passes ≡ 1
+  pub rights_most : rights ≤ 1
   pub trees : now ≡ after (plain sizes) (events_of made)
   pub legal : IsLegal (plain sizes) (events_of made)
   pub mine : made ≡ calls_from sizes.first 0 (events_of made)
   pub room : sizes.first + length made ≤ places_end
-
--- the pairs of one tree
-abbrev pub held_in : ℕ → List Pair → List Held
-held_in tree pairs = map (λ p. record { tree = tree; owner = p.owner; range = p.range }) pairs

@@ -8,6 +8,8 @@ pub mod lists;
 pub(crate) mod pairs;
 pub mod plan;
 pub mod runs;
+pub(crate) mod seq_calls;
+pub mod seq_note;
 pub mod seq_pass;
 pub(crate) mod seq_tree;
 pub mod seq_yard;
@@ -19,8 +21,9 @@ pub use lists::{HeldList, Owners};
 pub use pairs::{add_held, grant};
 pub use plan::YardPlan;
 pub use runs::{JoinCounts, join_pairs};
+pub use seq_note::SeqNote;
 pub use seq_yard::SeqYard;
-pub use yard::{Closed, Pass, Yard};
+pub use yard::{Closed, Note, Pass, Yard};
 
 #[cfg(test)]
 mod tests;

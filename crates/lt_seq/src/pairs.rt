@@ -2,7 +2,7 @@
 ghost use Rattle.std.specs.Prelude.{◌≡◌, ◌≤◌, ◌++◌, length, insert, OnOk, OnErr, IfOk, vec_len, vec_capacity};
 ghost use Rattle.lt_seq.specs.declared.event.Pair.{Pair};
 ghost use Rattle.lt_seq.specs.Pairs.{is_own, others, freed, count_freed, span, with_pair, granted};
-ghost use Rattle.lt_seq.specs.SeqPass.{held_in};
+ghost use Rattle.lt_seq.specs.Table.{held_in};
 
 use crate::event::{Held, Pair};
 use lt_ranges::{Key, KeyRange};

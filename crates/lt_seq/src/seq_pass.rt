@@ -1,19 +1,29 @@
 //! The pass of the plain table.
-ghost use Rattle.std.specs.Prelude.{◌≡◌, ◌^◌, ◌≤◌, ◌<◌, [], ◌∷◌, replicate, length, slice_set, OnOk, OnErr, IfOk};
-ghost use Rattle.lt_seq.specs.declared.event.Deed.TheVariants.{Ask, Free};
+ghost use Rattle.std.specs.Prelude.{◌≡◌, ◌^◌, ◌≤◌, ◌<◌, ◌+◌, ◌-◌, [], ◌∷◌, replicate, length, slice_set, OnOk, OnErr, IfOk, IfErr};
+ghost use Rattle.lt_seq.specs.declared.event.Deed.TheVariants.{Ask, Free, Who, Join};
 ghost use Rattle.lt_seq.specs.declared.event.Reply.TheVariants.{Granted};
-ghost use Rattle.lt_seq.specs.Table.{fresh, tree_at, ask_reply, after_ask, free_count, after_free};
-ghost use Rattle.lt_seq.specs.Yard.{shows, place_after, places_end, OneMore, IsSound, IsPlan};
+ghost use Rattle.lt_seq.specs.Table.{fresh, tree_at, ask_reply, after_ask, free_count, after_free, mode_asked, ended};
+ghost use Rattle.lt_seq.specs.Pairs.{IsLawful, others, joined};
+ghost use Rattle.lt_seq.specs.Yard.{shows, place_after, places_end, OneMore, HasAll, IsSound, IsPlan, Learns, Shares};
+ghost use Rattle.lt_seq.specs.Alone.{AloneCaused};
 ghost use Rattle.lt_seq.specs.Passes.{IsRest, held_from};
 ghost use Rattle.lt_seq.specs.SeqPass.{plain, alone_view};
 
-use crate::event::{Deed, Event, Held, Look, Receipt, Reply};
+use crate::event::{Deed, Event, Held, JoinNote, Look, Pair, Receipt, Reply};
+use crate::fault::Fault;
+use crate::lists::{HeldList, Owners};
+use crate::pairs::add_held;
 use crate::plan::YardPlan;
+use crate::seq_note::SeqNote;
 use crate::seq_tree::SeqTree;
 use crate::yard::{Closed, Pass};
 use lt_ranges::KeyRange;
 use std::alloc::{AllocError, Global};
 use std::marker::Model;
+use std::mem;
+
+/// The place from which on no call makes an event.
+const PLACES_END: u64 = 1 << 39;
 
 /// The one pass of a plain table. It holds the table, and its own calls are the whole history.
 #[derive(Drop)]
@@ -21,7 +31,9 @@ pub struct SeqPass {
     plan: YardPlan,
     alloc: Global,
     trees: Vec<SeqTree>,
+    rights: u32,
     mine: Vec<Receipt>,
+    notes: Vec<JoinNote>,
 }
 
 impl Model for SeqPass {
@@ -30,9 +42,9 @@ impl Model for SeqPass {
 
     ghost Value = { Planned };
 
-    ghost view = { λ s. record { plan = s.plan; view = alone_view s.mine.items } };
+    ghost view = { λ s. record { plan = s.plan; view = alone_view s.rights s.mine.items s.notes.items } };
 
-    ghost invariant = { λ s. IsSequential s.plan s.trees.items s.mine.items };
+    ghost invariant = { λ s. IsSequential s.plan s.rights s.trees.items s.mine.items };
 }
 
 impl Pass for SeqPass {
@@ -49,7 +61,7 @@ impl Pass for SeqPass {
     }
 
     fn rights(&self) -> u32 {
-        self.plan.passes
+        self.rights
     }
 }
 
@@ -58,13 +70,15 @@ impl SeqPass {
     pub(crate) fn new(alloc: Global, plan: &YardPlan) -> Result<Self, AllocError>
         requires plan { IsPlan plan.now }
         requires passes { plan.now.passes ≡ 1 }
-        ensures { IfOk result (λ p. p ≡ record { plan = plan.now; view = alone_view [] }) }
+        ensures { IfOk result (λ p. p ≡ record { plan = plan.now; view = alone_view 1 [] [] }) }
     {
         Ok(SeqPass {
             plan: *plan,
             alloc,
             trees: fresh_trees(alloc, plan.trees)?,
+            rights: 1,
             mine: Vec::new(alloc),
+            notes: Vec::new(alloc),
         })
     }
 
@@ -72,6 +86,7 @@ impl SeqPass {
     pub(crate) fn look(&self) -> Look
         ensures seen { result ≡ shows (plain self.now.plan) self.now.view.front }
         ensures sound { IsSound (plain self.now.plan) self.now.view }
+        ensures all { 1 ≤ self.now.view.rights → HasAll (plain self.now.plan) self.now.view }
     {
         let mut used = 0;
         for tree in &self.trees {
@@ -81,6 +96,20 @@ impl SeqPass {
             place: self.plan.first + self.mine.len() as u64,
             used,
         }
+    }
+
+    /// The place of the next event, where there is one.
+    pub(crate) fn place(&self) -> Result<u64, Fault>
+        ensures ok { IfOk result (λ place. place ≡ place_after (plain self.now.plan) self.now.view.front) }
+        ensures room { OnOk result (place_after (plain self.now.plan) self.now.view.front < places_end) }
+        ensures err { IfErr result (λ fault. AloneCaused (plain self.now.plan) self.now.view.front fault) }
+        ensures sound { IsSound (plain self.now.plan) self.now.view }
+    {
+        let place = self.plan.first + self.mine.len() as u64;
+        if place >= PLACES_END {
+            return Err(Fault::HistoryFull { place });
+        }
+        Ok(place)
     }
 
     /// Asks in a tree: one event more, or want of memory and no change.
@@ -104,9 +133,8 @@ impl SeqPass {
         self.mine.reserve(1)?;
         let place = self.plan.first + self.mine.len() as u64;
         ask_in(&mut self.trees, tree, self.plan.buffer, txn, range, &reply)?;
-        let Ok(()) = self.mine.push(asked(place, txn, tree, range, kept)) else {
-            unreachable!();
-        };
+        self.mine
+            .push_reserved(asked(place, txn, tree, range, kept));
         Ok(asked(place, txn, tree, range, reply))
     }
 
@@ -130,10 +158,95 @@ impl SeqPass {
         self.mine.reserve(1)?;
         let place = self.plan.first + self.mine.len() as u64;
         let count = free_in(&mut self.trees, tree, txn, range, first);
-        let Ok(()) = self.mine.push(freed(place, txn, tree, range, first, count)) else {
-            unreachable!();
-        };
+        self.mine
+            .push_reserved(freed(place, txn, tree, range, first, count));
         Ok(freed(place, txn, tree, range, first, count))
+    }
+
+    /// Asks whose ranges stand in the way of the named transaction.
+    pub(crate) fn who(
+        &mut self,
+        txn: u64,
+        as_txn: u64,
+        tree: u32,
+        range: &KeyRange,
+    ) -> Result<Receipt, AllocError>
+        requires tree { tree < self.old.plan.trees }
+        requires room { place_after (plain self.old.plan) self.old.view.front < places_end }
+        ensures plan { self.new.plan ≡ self.old.plan }
+        ensures sound { IsSound (plain self.new.plan) self.new.view }
+        ensures ok { IfOk result (λ r. OneMore (plain self.old.plan) self.old.view self.new.view txn (Who tree range.now as_txn []) r) }
+        ensures err { OnErr result (self.new ≡ self.old) }
+    {
+        // For the prover: a range that was read has its left end at most at its right one.
+        let _left = range.left();
+        let owners = owners_in(&self.trees, tree, self.alloc, as_txn, range)?;
+        let kept = owners.again()?;
+        self.mine.reserve(1)?;
+        let place = self.plan.first + self.mine.len() as u64;
+        who_in(&mut self.trees, tree, as_txn);
+        self.mine
+            .push_reserved(named(place, txn, tree, range, as_txn, kept));
+        Ok(named(place, txn, tree, range, as_txn, owners))
+    }
+
+    /// Joins the neighbours of a tree, and leaves a note: one event more, or want of memory and no change.
+    pub(crate) fn join(&mut self, txn: u64, tree: u32) -> Result<Receipt, AllocError>
+        requires tree { tree < self.old.plan.trees }
+        requires room { place_after (plain self.old.plan) self.old.view.front < places_end }
+        ensures plan { self.new.plan ≡ self.old.plan }
+        ensures sound { IsSound (plain self.new.plan) self.new.view }
+        ensures ok { IfOk result (λ r. OneMore (plain self.old.plan) self.old.view self.new.view txn (Join tree 0 0) r) }
+        ensures err { OnErr result (self.new ≡ self.old) }
+    {
+        let pairs = joined_in(&self.trees, tree, self.alloc)?;
+        let mut left = Vec::new(self.alloc);
+        add_held(&mut left, tree, &pairs)?;
+        self.mine.reserve(1)?;
+        self.notes.reserve(1)?;
+        let place = self.plan.first + self.mine.len() as u64;
+        let after = pairs.len() as u64;
+        let before = put_in(&mut self.trees, tree, pairs);
+        self.notes.push_reserved(JoinNote {
+            place,
+            tree,
+            before,
+            after,
+            pairs: HeldList::of(left),
+        });
+        self.mine
+            .push_reserved(joined(place, txn, tree, before, after));
+        Ok(joined(place, txn, tree, before, after))
+    }
+
+    /// Hands out the notes.
+    pub(crate) fn take_notes(&mut self) -> Vec<JoinNote>
+        ensures plan { self.new.plan ≡ self.old.plan }
+        ensures notes { result.items ≡ self.old.view.notes }
+        ensures pass { self.new.view ≡ record self.old.view { notes = [] } }
+    {
+        mem::replace(&mut self.notes, Vec::new(self.alloc))
+    }
+
+    /// Gives rights away.
+    pub(crate) fn share(&mut self, rights: u32) -> SeqNote
+        requires enough { rights ≤ self.old.view.rights }
+        ensures plan { self.new.plan ≡ self.old.plan }
+        ensures note_plan { result.plan ≡ self.old.plan }
+        ensures pass { self.new.view ≡ record self.old.view { rights = self.old.view.rights - rights } }
+        ensures note { Shares (plain self.old.plan) self.old.view rights result.view }
+    {
+        self.rights -= rights;
+        SeqNote::new(self.plan, rights)
+    }
+
+    /// Takes rights.
+    pub(crate) fn learn(&mut self, note: SeqNote)
+        requires fits { self.old.view.rights + note.view.rights ≤ self.old.plan.passes }
+        ensures plan { self.new.plan ≡ self.old.plan }
+        ensures learns { Learns (plain self.old.plan) self.old.view note.view self.new.view }
+    {
+        self.rights += note.rights();
     }
 
     /// Ends the table, and tells its history, its rows in use and what is still held.
@@ -201,6 +314,83 @@ fn freed(place: u64, txn: u64, tree: u32, range: &KeyRange, first: bool, count: 
             },
         },
     }
+}
+
+/// The receipt of a question for owners.
+fn named(place: u64, txn: u64, tree: u32, range: &KeyRange, as_txn: u64, owners: Owners) -> Receipt
+    ensures { result ≡ record { place = place; event = record { pass = 0; txn = txn; deed = Who tree range.now as_txn owners } } }
+{
+    Receipt {
+        place,
+        event: Event {
+            pass: 0,
+            txn,
+            deed: Deed::Who {
+                tree,
+                range: *range,
+                as_txn,
+                owners,
+            },
+        },
+    }
+}
+
+/// The receipt of a join.
+fn joined(place: u64, txn: u64, tree: u32, before: u64, after: u64) -> Receipt
+    ensures { result ≡ record { place = place; event = record { pass = 0; txn = txn; deed = Join tree before after } } }
+{
+    Receipt {
+        place,
+        event: Event {
+            pass: 0,
+            txn,
+            deed: Deed::Join {
+                tree,
+                before,
+                after,
+            },
+        },
+    }
+}
+
+/// The pairs of one of the trees as a join leaves them.
+fn joined_in(trees: &[SeqTree], tree: u32, alloc: Global) -> Result<Vec<Pair>, AllocError>
+    requires tree { tree < length trees.now }
+    requires lawful { IsLawful (tree_at trees.now tree).pairs }
+    ensures { IfOk result (λ pairs. pairs.items ≡ joined [] (tree_at trees.now tree).pairs) }
+{
+    trees[tree as usize].joined(alloc)
+}
+
+/// Puts other pairs there, ends a buffer, and says how many there were.
+fn put_in(trees: &mut Vec<SeqTree>, tree: u32, pairs: Vec<Pair>) -> u64
+    requires { tree < length trees.old.items }
+    ensures count { result ≡ length (tree_at trees.old.items tree).pairs }
+    ensures after { trees.new.items ≡ slice_set trees.old.items tree (record { pairs = pairs.items; mode = ended (tree_at trees.old.items tree).mode }) }
+{
+    trees[tree as usize].put(pairs)
+}
+
+/// The owners other than this one whose ranges overlap in one of the trees.
+fn owners_in(
+    trees: &[SeqTree],
+    tree: u32,
+    alloc: Global,
+    named: u64,
+    range: &KeyRange,
+) -> Result<Owners, AllocError>
+    requires { tree < length trees.now }
+    ensures { IfOk result (λ owners. owners ≡ others named range.now (tree_at trees.now tree).pairs) }
+{
+    trees[tree as usize].owners(alloc, named, range)
+}
+
+/// Ends a buffer of another there.
+fn who_in(trees: &mut Vec<SeqTree>, tree: u32, named: u64)
+    requires { tree < length trees.old.items }
+    ensures { trees.new.items ≡ slice_set trees.old.items tree (record { pairs = (tree_at trees.old.items tree).pairs; mode = mode_asked named (tree_at trees.old.items tree).mode }) }
+{
+    trees[tree as usize].end_for(named);
 }
 
 /// The answer to an ask in one of the trees.

@@ -1,11 +1,12 @@
 //! One tree of the plain table.
-ghost use Rattle.std.specs.Prelude.{◌≡◌, ◌++◌, OnOk, OnErr, IfOk};
-ghost use Rattle.lt_seq.specs.Table.{fresh, rows_in, ended, is_whole, is_buffered, ask_reply, after_ask, free_count, after_free};
-ghost use Rattle.lt_seq.specs.SeqPass.{held_in};
+ghost use Rattle.std.specs.Prelude.{◌≡◌, ◌++◌, [], length, OnOk, OnErr, IfOk};
+ghost use Rattle.lt_seq.specs.Table.{fresh, rows_in, ended, is_whole, is_buffered, ask_reply, after_ask, free_count, after_free, mode_asked, held_in};
+ghost use Rattle.lt_seq.specs.Pairs.{IsLawful, others, joined};
 
 use crate::event::{Held, Mode, Pair, Reply};
 use crate::lists::Owners;
 use crate::pairs::{add_held, free, grant, others_of};
+use crate::runs::join_pairs;
 use lt_ranges::{Key, KeyRange};
 use std::alloc::{AllocError, Global};
 use std::marker::Model;
@@ -146,6 +147,50 @@ impl SeqTree {
             Mode::Tree { score } if first && score < 100 => Mode::Tree { score: score + 1 },
             mode => mode,
         };
+        count
+    }
+
+    /// The owners other than this one whose ranges overlap.
+    pub(crate) fn owners(
+        &self,
+        alloc: Global,
+        named: u64,
+        range: &KeyRange,
+    ) -> Result<Owners, AllocError>
+        ensures { IfOk result (λ owners. owners ≡ others named range.now self.now.pairs) }
+    {
+        Ok(Owners::of(others_of(alloc, &self.pairs, named, range)?))
+    }
+
+    /// A buffer of another ends.
+    pub(crate) fn end_for(&mut self, named: u64)
+        ensures { self.new ≡ record { pairs = self.old.pairs; mode = mode_asked named self.old.mode } }
+    {
+        if let Mode::Buffer { txn: owner, .. } = self.mode
+            && owner != named
+        {
+            self.mode = Mode::Tree { score: 0 };
+        }
+    }
+
+    /// The pairs as a join leaves them.
+    pub(crate) fn joined(&self, alloc: Global) -> Result<Vec<Pair>, AllocError>
+        requires { IsLawful self.now.pairs }
+        ensures { IfOk result (λ pairs. pairs.items ≡ joined [] self.now.pairs) }
+    {
+        let mut pairs = Vec::from_slice(alloc, &self.pairs)?;
+        join_pairs(&mut pairs, &[]);
+        Ok(pairs)
+    }
+
+    /// Puts other pairs in place of its own, ends a buffer, and says how many its own were.
+    pub(crate) fn put(&mut self, pairs: Vec<Pair>) -> u64
+        ensures count { result ≡ length self.old.pairs }
+        ensures after { self.new ≡ record { pairs = pairs.items; mode = ended self.old.mode } }
+    {
+        let count = self.pairs.len() as u64;
+        self.pairs = pairs;
+        self.mode = ended(self.mode);
         count
     }
 

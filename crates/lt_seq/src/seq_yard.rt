@@ -1,15 +1,14 @@
 //! The plain lock table, with one pass.
-use crate::event::{Look, Receipt};
+use crate::event::{JoinNote, Look, Receipt};
 use crate::fault::Fault;
 use crate::plan::YardPlan;
+use crate::seq_calls;
+use crate::seq_note::SeqNote;
 use crate::seq_pass::SeqPass;
 use crate::yard::{Closed, Yard};
 use lt_ranges::KeyRange;
 use std::alloc::{AllocError, Global};
 use std::marker::Model;
-
-/// The place from which on no call makes an event.
-const PLACES_END: u64 = 1 << 39;
 
 /// The plain lock table: one sorted list of ranges a tree, and one pass. It is never busy.
 #[derive(Drop)]
@@ -33,6 +32,8 @@ impl Yard for SeqYard {
     ghost use Rattle.lt_seq.specs.Passes.{AreAll, IsRest, front_of_first};
 
     type Pass = SeqPass;
+
+    type Note = SeqNote;
 
     const MOST_PASSES: u32 = 1;
 
@@ -59,20 +60,14 @@ impl Yard for SeqYard {
         txn: u64,
         tree: u32,
         range: &KeyRange,
+        big: bool,
     ) -> Result<Receipt, Fault> {
+        let bar = seq_calls::bar_for(&self.plan, big);
         let look = pass.look();
-        if look.place >= PLACES_END {
-            return Err(Fault::HistoryFull { place: look.place });
-        }
-        if look.used >= self.plan.limit {
-            return Err(Fault::OutOfLocks {
-                place: look.place,
-                used: look.used,
-            });
-        }
-        match pass.ask(txn, tree, range) {
-            Ok(receipt) => Ok(receipt),
-            Err(AllocError) => Err(Fault::OutOfMemory),
+        if look.used < bar {
+            seq_calls::ask_below(pass, txn, tree, range, bar)
+        } else {
+            seq_calls::join_and_ask(pass, self.plan.trees, txn, tree, range, bar)
         }
     }
 
@@ -84,14 +79,34 @@ impl Yard for SeqYard {
         range: &KeyRange,
         first: bool,
     ) -> Result<Receipt, Fault> {
-        let look = pass.look();
-        if look.place >= PLACES_END {
-            return Err(Fault::HistoryFull { place: look.place });
-        }
-        match pass.free(txn, tree, range, first) {
-            Ok(receipt) => Ok(receipt),
-            Err(AllocError) => Err(Fault::OutOfMemory),
-        }
+        seq_calls::free(pass, txn, tree, range, first)
+    }
+
+    fn who(
+        &self,
+        pass: &mut SeqPass,
+        txn: u64,
+        as_txn: u64,
+        tree: u32,
+        range: &KeyRange,
+    ) -> Result<Receipt, Fault> {
+        seq_calls::who(pass, txn, as_txn, tree, range)
+    }
+
+    fn escalate(&self, pass: &mut SeqPass, txn: u64, tree: u32) -> Result<Receipt, Fault> {
+        seq_calls::join(pass, txn, tree)
+    }
+
+    fn take_notes(&self, pass: &mut SeqPass) -> Vec<JoinNote> {
+        pass.take_notes()
+    }
+
+    fn share(&self, pass: &mut SeqPass, rights: u32) -> SeqNote {
+        pass.share(rights)
+    }
+
+    fn learn(&self, pass: &mut SeqPass, note: SeqNote) {
+        pass.learn(note);
     }
 
     fn close(self, alloc: Global, passes: Vec<SeqPass>) -> Result<Closed, AllocError>

@@ -1,13 +1,13 @@
 //! The lock table as the layers above see it.
-ghost use Rattle.std.specs.Prelude.{◌≡◌, ℕ, ◌≤◌, ◌<◌, List, [], map, IfOk};
+ghost use Rattle.std.specs.Prelude.{◌≡◌, ℕ, ◌≤◌, ◌<◌, ◌+◌, ◌-◌, List, [], map, IfOk};
 ghost use Rattle.std.specs.List.{AllByRecursion};
-ghost use Rattle.lt_seq.specs.declared.event.Deed.TheVariants.{Ask, Free};
+ghost use Rattle.lt_seq.specs.declared.event.Deed.TheVariants.{Ask, Free, Who, Join};
 ghost use Rattle.lt_seq.specs.declared.event.Reply.TheVariants.{Granted};
 ghost use Rattle.lt_seq.specs.Table.{Setting};
-ghost use Rattle.lt_seq.specs.Yard.{IsPlan, Origin, origin_of, PassView, Watches, Answers, AskAnswers, shows};
+ghost use Rattle.lt_seq.specs.Yard.{IsPlan, Origin, origin_of, PassView, NoteView, Watches, Answers, AskAnswers, bar_for, shows, Shares, Learns};
 ghost use Rattle.lt_seq.specs.Passes.{opening_passes, AreAll, front_of_first, IsRest};
 
-use crate::event::{Held, Look, Receipt};
+use crate::event::{Held, JoinNote, Look, Receipt};
 use crate::fault::Fault;
 use crate::plan::YardPlan;
 use lt_ranges::KeyRange;
@@ -33,6 +33,15 @@ pub trait Pass {
         ensures { result ≡ (view self.now).rights };
 }
 
+/// What a pass hands to another: rights, and what it has seen. It may travel through a lock or a channel.
+pub trait Note {
+    /// The yard that it was made for.
+    ghost origin: { Self → Origin };
+
+    /// What it carries.
+    ghost view: { Self → NoteView };
+}
+
 /// What is left of a yard that was closed.
 #[derive(Debug, Drop)]
 pub struct Closed {
@@ -52,6 +61,8 @@ pub struct Closed {
 /// sequential range table answers there.
 pub trait Yard: Sync + Sized + Drop {
     type Pass: Pass + Send + Drop;
+
+    type Note: Note + Send + Drop;
 
     /// The most passes that a table of this kind serves.
     const MOST_PASSES: u32;
@@ -84,24 +95,29 @@ pub trait Yard: Sync + Sized + Drop {
 
     /// Asks for a range. It is granted, buffered, or held by others, whom the reply names.
     ///
-    /// The call looks first. `HistoryFull` comes exactly where the look shows a place of 2^39 or more, and `OutOfLocks`
-    /// exactly where it shows a lower place and that the rows in use have reached the limit. `Busy` comes only where
-    /// the look showed room, a row was then found held by another pass, and this pass has not all the rights.
-    /// `OutOfMemory` may come at any moment. After a fault there is no event of this call, and the table is as others
-    /// make it.
+    /// The call looks first. Where the rows in use have reached the bar, it joins every tree in ascending order, each
+    /// join an event of this call by this transaction that leaves a note, and looks before each join but the first and
+    /// once more behind the last. Then it asks. The bar is the limit, and for a big transaction half of it, rounded up.
+    ///
+    /// `HistoryFull` comes exactly where a look shows a place of 2^39 or more, and `OutOfLocks` exactly where the look
+    /// behind the joins of all trees shows a lower place and rows that have reached the bar. `Busy` comes only where the
+    /// last look showed room, a row was then found held by another pass, and this pass has not all the rights.
+    /// `OutOfMemory` may come at any moment. After a fault there is no event of this call but the joins of the first
+    /// trees that it has made, which stay, with their receipts and notes; the table is as others make it.
     fn ask(
         &self,
         pass: &mut Self::Pass,
         txn: u64,
         tree: u32,
         range: &KeyRange,
+        big: bool,
     ) -> Result<Receipt, Fault>
         requires of { Self.Pass.origin pass.old ≡ origin_of (identity self.now) (setting self.now) }
         requires right { 1 ≤ (Self.Pass.view pass.old).rights }
         requires txn { 1 ≤ txn }
         requires tree { tree < (setting self.now).plan.trees }
         ensures of { Self.Pass.origin pass.new ≡ origin_of (identity self.now) (setting self.now) }
-        ensures answer { AskAnswers (setting self.now) (Self.Pass.view pass.old) (Self.Pass.view pass.new) txn (Ask tree range.now Granted) result };
+        ensures answer { AskAnswers (setting self.now) (bar_for (setting self.now) big) (Self.Pass.view pass.old) (Self.Pass.view pass.new) txn (Ask tree range.now Granted) result };
 
     /// Frees the transaction's ranges that overlap the range, and counts them. `first` tells that this is the
     /// first free of a release in this tree.
@@ -121,6 +137,63 @@ pub trait Yard: Sync + Sized + Drop {
         requires tree { tree < (setting self.now).plan.trees }
         ensures of { Self.Pass.origin pass.new ≡ origin_of (identity self.now) (setting self.now) }
         ensures answer { Answers (setting self.now) (Self.Pass.view pass.old) (Self.Pass.view pass.new) txn (Free tree range.now first 0) result };
+
+    /// Asks whose ranges stand in the way of the named transaction, which may be the one that asks. There may be none.
+    ///
+    /// The faults are those of `free`.
+    fn who(
+        &self,
+        pass: &mut Self::Pass,
+        txn: u64,
+        as_txn: u64,
+        tree: u32,
+        range: &KeyRange,
+    ) -> Result<Receipt, Fault>
+        requires of { Self.Pass.origin pass.old ≡ origin_of (identity self.now) (setting self.now) }
+        requires right { 1 ≤ (Self.Pass.view pass.old).rights }
+        requires txn { 1 ≤ txn }
+        requires as_txn { 1 ≤ as_txn }
+        requires tree { tree < (setting self.now).plan.trees }
+        ensures of { Self.Pass.origin pass.new ≡ origin_of (identity self.now) (setting self.now) }
+        ensures answer { Answers (setting self.now) (Self.Pass.view pass.old) (Self.Pass.view pass.new) txn (Who tree range.now as_txn []) result };
+
+    /// Joins each run of neighbours of one owner in a tree, and leaves a note of it.
+    ///
+    /// The faults are those of `free`.
+    fn escalate(&self, pass: &mut Self::Pass, txn: u64, tree: u32) -> Result<Receipt, Fault>
+        requires of { Self.Pass.origin pass.old ≡ origin_of (identity self.now) (setting self.now) }
+        requires right { 1 ≤ (Self.Pass.view pass.old).rights }
+        requires txn { 1 ≤ txn }
+        requires tree { tree < (setting self.now).plan.trees }
+        ensures of { Self.Pass.origin pass.new ≡ origin_of (identity self.now) (setting self.now) }
+        ensures answer { Answers (setting self.now) (Self.Pass.view pass.old) (Self.Pass.view pass.new) txn (Join tree 0 0) result };
+
+    /// Hands out the notes of the pass's joins that were not handed out yet, in the order of the joins, and leaves
+    /// none. It takes no memory and is never refused.
+    fn take_notes(&self, pass: &mut Self::Pass) -> Vec<JoinNote>
+        requires of { Self.Pass.origin pass.old ≡ origin_of (identity self.now) (setting self.now) }
+        ensures of { Self.Pass.origin pass.new ≡ origin_of (identity self.now) (setting self.now) }
+        ensures notes { result.items ≡ (Self.Pass.view pass.old).notes }
+        ensures pass { Self.Pass.view pass.new ≡ record (Self.Pass.view pass.old) { notes = [] } };
+
+    /// Gives rights away, none or all of them too, with what the pass has seen: all of it, but that a table of one
+    /// pass may leave it out, since there is no other to tell. It takes no memory and is never refused.
+    fn share(&self, pass: &mut Self::Pass, rights: u32) -> Self::Note
+        requires of { Self.Pass.origin pass.old ≡ origin_of (identity self.now) (setting self.now) }
+        requires enough { rights ≤ (Self.Pass.view pass.old).rights }
+        ensures of { Self.Pass.origin pass.new ≡ origin_of (identity self.now) (setting self.now) }
+        ensures of_note { Self.Note.origin result ≡ origin_of (identity self.now) (setting self.now) }
+        ensures pass { Self.Pass.view pass.new ≡ record (Self.Pass.view pass.old) { rights = (Self.Pass.view pass.old).rights - rights } }
+        ensures note { Shares (setting self.now) (Self.Pass.view pass.old) rights (Self.Note.view result) };
+
+    /// Takes the rights of a note, and the longer of the two fronts. A pass has no more rights than there are. It takes
+    /// no memory and is never refused.
+    fn learn(&self, pass: &mut Self::Pass, note: Self::Note)
+        requires of { Self.Pass.origin pass.old ≡ origin_of (identity self.now) (setting self.now) }
+        requires of_note { Self.Note.origin note ≡ origin_of (identity self.now) (setting self.now) }
+        requires fits { (Self.Pass.view pass.old).rights + (Self.Note.view note).rights ≤ (setting self.now).plan.passes }
+        ensures of { Self.Pass.origin pass.new ≡ origin_of (identity self.now) (setting self.now) }
+        ensures learns { Learns (setting self.now) (Self.Pass.view pass.old) (Self.Note.view note) (Self.Pass.view pass.new) };
 
     /// Ends the table, and tells its whole history, its rows in use and what is still held. The passes are all of
     /// the table's, in the order of their numbers, and the first has all the rights.

@@ -1,5 +1,5 @@
 use Rattle.std.proofs.Common.{◌≡◌, ◌++◌, drop}
-use Rattle.lt_seq.specs.SeqPass.{held_in}
+use Rattle.lt_seq.specs.Table.{held_in}
 use Rattle.lt_seq.proofs.pairs.add_held.Given as goal
 
 -- those put, and then those left

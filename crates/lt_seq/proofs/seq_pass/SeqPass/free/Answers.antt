@@ -5,15 +5,15 @@ use Rattle.lt_seq.specs.SeqPass.{IsSequential}
 use Rattle.lt_seq.proofs.seq_pass.SeqPass.free.Goals as goal
 
 pub free_in-count-requires : goal.free_in-count-requires
-free_in-count-requires c = omega (arith, trees_there _ _ _ c.self.invariant, ap (λ p. p.plan.trees) c.self.view_is)
+free_in-count-requires c = omega (arith, trees_there _ _ _ _ c.self.invariant, ap (λ p. p.plan.trees) c.self.view_is)
 
 -- the pass once it has the receipt
-next : (c : goal.After-freed-2) → IsSequential c.self.inside.plan c.free_in-count.new.trees.items c.push.new.self.items
+next : (c : goal.After-freed-2) → IsSequential c.self.inside.plan c.self.inside.rights c.free_in-count.new.trees.items c.push_reserved.new.self.items
 next c =
     let inside = c.self.inside in
     let is = c.self.view_is in
     let deed = Free c.args.tree c.args.range.now c.args.first c.free_in-count.result in
-    sequential_to inside.plan inside.trees.items c.free_in-count.new.trees.items inside.mine.items c.push.new.self.items
+    sequential_to inside.plan inside.rights inside.trees.items c.free_in-count.new.trees.items inside.mine.items c.push_reserved.new.self.items
     (record { place = inside.plan.first + c.len.result; event = record { pass = 0; txn = c.args.txn; deed = deed } }) _
     c.self.invariant
     (record {
@@ -32,4 +32,4 @@ pub invariant_of-self-2 : goal.invariant_of-self-2
 invariant_of-self-2 c = next c
 
 pub returns-clause-sound : goal.returns-clause-sound
-returns-clause-sound c = sound_of _ _ _ (next c)
+returns-clause-sound c = sound_of _ _ _ _ _ (next c)

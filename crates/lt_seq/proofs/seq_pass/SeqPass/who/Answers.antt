@@ -1,0 +1,40 @@
+use Rattle.std.proofs.Common.{◌≡◌, ap, arith, rules, refl, ◌+◌, length}
+use Rattle.lt_seq.proofs.SeqLaws.{trees_there, sequential_to, sound_of, length-events_of}
+use Rattle.lt_seq.specs.declared.event.Deed.TheVariants.{Who}
+use Rattle.lt_seq.specs.SeqPass.{IsSequential}
+use Rattle.lt_seq.specs.Pairs.{others}
+use Rattle.lt_seq.specs.Table.{tree_at}
+use Rattle.lt_seq.proofs.seq_pass.SeqPass.who.Goals as goal
+
+pub owners_in-requires : goal.owners_in-requires
+owners_in-requires c = omega (arith, trees_there _ _ _ _ c.self.invariant, ap (λ p. p.plan.trees) c.self.view_is)
+
+pub who_in-requires : goal.who_in-requires
+who_in-requires c = omega (arith, trees_there _ _ _ _ c.self.invariant, ap (λ p. p.plan.trees) c.self.view_is)
+
+-- the pass once it has the receipt
+next : (c : goal.After-named-2) → IsSequential c.self.inside.plan c.self.inside.rights c.who_in.new.trees.items c.push_reserved.new.self.items
+next c =
+    let inside = c.self.inside in
+    let is = c.self.view_is in
+    let owners : c.in_ok-kept.kept ≡ others c.args.as_txn c.args.range.now (tree_at inside.trees.items c.args.tree).pairs = search rules in
+    sequential_to inside.plan inside.rights inside.trees.items c.who_in.new.trees.items inside.mine.items c.push_reserved.new.self.items
+    (record { place = inside.plan.first + c.len.result; event = record { pass = 0; txn = c.args.txn; deed = Who c.args.tree c.args.range.now c.args.as_txn c.in_ok-kept.kept } }) _
+    c.self.invariant
+    (record {
+      pass = refl;
+      place = grind arith;
+      room = omega (arith, ap (λ p. p.plan.first) is, ap (λ p. length p.view.front) is, length-events_of inside.mine.items, c.requires.room);
+      tree = omega (arith, ap (λ p. p.plan.trees) is);
+      question = c.left-left.ensures.ordered;
+      replies = ap (Who c.args.tree c.args.range.now c.args.as_txn) owners;
+      moved_is = refl;
+    })
+    (search rules)
+    (search rules)
+
+pub invariant_of-self-2 : goal.invariant_of-self-2
+invariant_of-self-2 c = next c
+
+pub returns-clause-sound : goal.returns-clause-sound
+returns-clause-sound c = sound_of _ _ _ _ _ (next c)
