@@ -16,12 +16,12 @@ use Rattle.lt_seq.specs.Questions.{events_of}
 use Rattle.lt_seq.specs.SeqPass.{plain, alone_view, origin_in, Planned, IsSequential}
 
 -- as many trees as the plan says
-pub trees_there : (plan : YardPlan) (rights : ℕ) (trees : List TreeState) (mine : List Receipt) → IsSequential plan rights trees mine → length trees ≡ plan.trees
-trees_there plan rights trees mine seq = ap length seq.trees ∙ length-after (plain plan) (events_of mine)
+pub trees_there : (plan : YardPlan) (number rights : ℕ) (trees : List TreeState) (mine : List Receipt) → IsSequential plan number rights trees mine → length trees ≡ plan.trees
+trees_there plan number rights trees mine seq = ap length seq.trees ∙ length-after (plain plan) (events_of mine)
 
 -- and each has lawful pairs
-pub lawful_there : (plan : YardPlan) (rights : ℕ) (trees : List TreeState) (mine : List Receipt) (tree : ℕ) → IsSequential plan rights trees mine → IsLawful (tree_at trees tree).pairs
-lawful_there plan rights trees mine tree seq =
+pub lawful_there : (plan : YardPlan) (number rights : ℕ) (trees : List TreeState) (mine : List Receipt) (tree : ℕ) → IsSequential plan number rights trees mine → IsLawful (tree_at trees tree).pairs
+lawful_there plan number rights trees mine tree seq =
     subst (λ ts. IsLawful (tree_at ts tree).pairs) (sym seq.trees) (sound_history (plain plan) (events_of mine) seq.legal tree).lawful
 
 pub length-events_of : (mine : List Receipt) → length (events_of mine) ≡ length mine
@@ -32,17 +32,17 @@ events_of-append : (mine : List Receipt) (r : Receipt) → events_of (mine ++ r 
 events_of-append [] r = refl
 events_of-append (x ∷ xs) r = ap (λ l. x.event ∷ l) (events_of-append xs r)
 
-pub sound_of : (plan : YardPlan) (rights : ℕ) (trees : List TreeState) (mine : List Receipt) (notes : List JoinNote) → IsSequential plan rights trees mine → IsSound (plain plan) (alone_view rights mine notes)
-sound_of plan rights trees mine notes seq = record { legal = seq.legal; mine = seq.mine }
+pub sound_of : (plan : YardPlan) (number rights : ℕ) (trees : List TreeState) (mine : List Receipt) (notes : List JoinNote) → IsSequential plan number rights trees mine → IsSound (plain plan) (alone_view number rights mine notes)
+sound_of plan number rights trees mine notes seq = record { legal = seq.legal; mine = seq.mine }
 
 -- the rows in use are few enough
-pub used_fits : (plan : YardPlan) (rights : ℕ) (trees : List TreeState) (mine : List Receipt) → IsSequential plan rights trees mine → used trees ≤ 2 ^ 39
-used_fits plan rights trees mine seq =
+pub used_fits : (plan : YardPlan) (number rights : ℕ) (trees : List TreeState) (mine : List Receipt) → IsSequential plan number rights trees mine → used trees ≤ 2 ^ 39
+used_fits plan number rights trees mine seq =
     omega (arith, ap used seq.trees, used_most (plain plan) (events_of mine) seq.legal, length-events_of mine, seq.room)
 
 -- a deed at a tree, with its replies, and what it leaves there
-pub record MadeAt (plan : YardPlan) (trees : List TreeState) (mine : List Receipt) (receipt : Receipt) (moved : TreeState) : Type 0 where
-  pub pass : receipt.event.pass ≡ 0
+pub record MadeAt (plan : YardPlan) (number : ℕ) (trees : List TreeState) (mine : List Receipt) (receipt : Receipt) (moved : TreeState) : Type 0 where
+  pub pass : receipt.event.pass ≡ number
   pub place : receipt.place ≡ plan.first + length mine
   pub room : receipt.place < 2 ^ 39
   pub tree : tree_of receipt.event.deed < plan.trees
@@ -51,17 +51,18 @@ pub record MadeAt (plan : YardPlan) (trees : List TreeState) (mine : List Receip
   pub moved_is : moved ≡ tree_after (plain plan) receipt.event.txn receipt.event.deed (tree_at trees (tree_of receipt.event.deed))
 
 -- the invariant after one event more
-pub sequential_more : (plan : YardPlan) (rights : ℕ) (trees : List TreeState) (mine : List Receipt) (receipt : Receipt) (moved : TreeState) →
-    IsSequential plan rights trees mine → MadeAt plan trees mine receipt moved →
-    IsSequential plan rights (slice_set trees (tree_of receipt.event.deed) moved) (mine ++ receipt ∷ [])
-sequential_more plan rights trees mine receipt moved seq made =
+pub sequential_more : (plan : YardPlan) (number rights : ℕ) (trees : List TreeState) (mine : List Receipt) (receipt : Receipt) (moved : TreeState) →
+    IsSequential plan number rights trees mine → MadeAt plan number trees mine receipt moved →
+    IsSequential plan number rights (slice_set trees (tree_of receipt.event.deed) moved) (mine ++ receipt ∷ [])
+sequential_more plan number rights trees mine receipt moved seq made =
     let e = receipt.event in
     let events = events_of-append mine receipt in
     let next : IsNext (plain plan) (after (plain plan) (events_of mine)) e =
-    record { pass = omega (arith, made.pass, seq.passes); tree = made.tree; question = made.question; replies = subst (λ ts. e.deed ≡ replied (plain plan) e.txn e.deed (tree_at ts (tree_of e.deed))) seq.trees made.replies } in
+    record { pass = omega (arith, made.pass, seq.first, seq.passes); tree = made.tree; question = made.question; replies = subst (λ ts. e.deed ≡ replied (plain plan) e.txn e.deed (tree_at ts (tree_of e.deed))) seq.trees made.replies } in
     record {
       plan = seq.plan;
       passes = seq.passes;
+      first = seq.first;
       rights_most = seq.rights_most;
       trees =
           ap (λ t. slice_set trees (tree_of e.deed) t) made.moved_is
@@ -71,17 +72,17 @@ sequential_more plan rights trees mine receipt moved seq made =
       legal = subst (λ l. IsLegal (plain plan) l) (sym events) (legal_more (plain plan) (events_of mine) e seq.legal next);
       mine =
           ap (λ l. l ++ receipt ∷ []) seq.mine
-          ∙ ap (λ n. calls_from plan.first 0 (events_of mine) ++ record { place = n; event = e } ∷ []) (made.place ∙ ap (λ n. plan.first + n) (sym (length-events_of mine)))
-          ∙ sym (calls_more plan.first 0 (events_of mine) e made.pass)
-          ∙ ap (calls_from plan.first 0) (sym events);
+          ∙ ap (λ n. calls_from plan.first number (events_of mine) ++ record { place = n; event = e } ∷ []) (made.place ∙ ap (λ n. plan.first + n) (sym (length-events_of mine)))
+          ∙ sym (calls_more plan.first number (events_of mine) e made.pass)
+          ∙ ap (calls_from plan.first number) (sym events);
       room = omega (arith, length-append mine (receipt ∷ []), made.room, made.place);
     }
 
-pub sequential_to : (plan : YardPlan) (rights : ℕ) (trees new_trees : List TreeState) (mine new_mine : List Receipt) (receipt : Receipt) (moved : TreeState) →
-    IsSequential plan rights trees mine → MadeAt plan trees mine receipt moved →
-    new_trees ≡ slice_set trees (tree_of receipt.event.deed) moved → new_mine ≡ mine ++ receipt ∷ [] → IsSequential plan rights new_trees new_mine
-sequential_to plan rights trees new_trees mine new_mine receipt moved seq made ts ms =
-    subst (λ ts. IsSequential plan rights ts new_mine) (sym ts) (subst (λ ms. IsSequential plan rights (slice_set trees (tree_of receipt.event.deed) moved) ms) (sym ms) (sequential_more plan rights trees mine receipt moved seq made))
+pub sequential_to : (plan : YardPlan) (number rights : ℕ) (trees new_trees : List TreeState) (mine new_mine : List Receipt) (receipt : Receipt) (moved : TreeState) →
+    IsSequential plan number rights trees mine → MadeAt plan number trees mine receipt moved →
+    new_trees ≡ slice_set trees (tree_of receipt.event.deed) moved → new_mine ≡ mine ++ receipt ∷ [] → IsSequential plan number rights new_trees new_mine
+sequential_to plan number rights trees new_trees mine new_mine receipt moved seq made ts ms =
+    subst (λ ts. IsSequential plan number rights ts new_mine) (sym ts) (subst (λ ms. IsSequential plan number rights (slice_set trees (tree_of receipt.event.deed) moved) ms) (sym ms) (sequential_more plan number rights trees mine receipt moved seq made))
 
 -- a list with one pass at its end
 last_of : (plan : YardPlan) (before : List Planned) (pass : Planned) → AllByRecursion (λ p. origin_in p ≡ origin_of [] (plain plan)) (before ++ pass ∷ []) → pass.plan ≡ plan

@@ -22,9 +22,9 @@ abbrev pub origin_in : Planned → Origin
 origin_in pass = record { identity = []; setting = plain pass.plan }
 
 -- The one pass meets no other, and its own calls are the whole history.
-abbrev pub alone_view : ℕ → List Receipt → List JoinNote → PassView
-alone_view rights made notes =
-    record { number = 0; rights = rights; met = 0; met_row = 0; met_holder = 0; front = events_of made; mine = made; notes = notes }
+abbrev pub alone_view : ℕ → ℕ → List Receipt → List JoinNote → PassView
+alone_view number rights made notes =
+    record { number = number; rights = rights; met = 0; met_row = 0; met_holder = 0; front = events_of made; mine = made; notes = notes }
 
 -- a note with the plan of its yard: it tells the one pass nothing new
 pub record PlannedNote : Type 0 where
@@ -35,11 +35,12 @@ abbrev pub note_origin : PlannedNote → Origin
 note_origin note = record { identity = []; setting = plain note.plan }
 
 -- the trees are those after the pass's own events
-pub record IsSequential (sizes : YardPlan) (rights : ℕ) (now : List TreeState) (made : List Receipt) : Type 0 where
+pub record IsSequential (sizes : YardPlan) (number rights : ℕ) (now : List TreeState) (made : List Receipt) : Type 0 where
   pub plan : IsPlan sizes
   pub passes : sizes.passes ≡ 1
+  pub first : number ≡ 0
   pub rights_most : rights ≤ 1
   pub trees : now ≡ after (plain sizes) (events_of made)
   pub legal : IsLegal (plain sizes) (events_of made)
-  pub mine : made ≡ calls_from sizes.first 0 (events_of made)
+  pub mine : made ≡ calls_from sizes.first number (events_of made)
   pub room : sizes.first + length made ≤ places_end

@@ -12,6 +12,7 @@ pub(crate) mod seq_calls;
 pub mod seq_note;
 pub mod seq_pass;
 pub(crate) mod seq_tree;
+pub(crate) mod seq_trees;
 pub mod seq_yard;
 pub mod yard;
 

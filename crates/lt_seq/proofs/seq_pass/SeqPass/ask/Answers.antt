@@ -5,20 +5,20 @@ use Rattle.lt_seq.specs.SeqPass.{IsSequential}
 use Rattle.lt_seq.specs.Table.{ask_reply, tree_at}
 use Rattle.lt_seq.proofs.seq_pass.SeqPass.ask.Goals as goal
 
-pub reply_in-requires : goal.reply_in-requires
-reply_in-requires c = omega (arith, trees_there _ _ _ _ c.self.invariant, ap (λ p. p.plan.trees) c.self.view_is)
+pub reply-requires : goal.reply-requires
+reply-requires c = omega (arith, trees_there _ _ _ _ _ c.self.invariant, ap (λ p. p.plan.trees) c.self.view_is)
 
-pub ask_in-requires-clause-tree : goal.ask_in-requires-clause-tree
-ask_in-requires-clause-tree c = omega (arith, trees_there _ _ _ _ c.self.invariant, ap (λ p. p.plan.trees) c.self.view_is)
+pub ask-requires-clause-tree : goal.ask-requires-clause-tree
+ask-requires-clause-tree c = omega (arith, trees_there _ _ _ _ _ c.self.invariant, ap (λ p. p.plan.trees) c.self.view_is)
 
 -- the pass once it has the receipt
-next : (c : goal.After-asked-2) → IsSequential c.self.inside.plan c.self.inside.rights c.ask_in.new.trees.items c.push_reserved.new.self.items
+next : (c : goal.After-receipt-2) → IsSequential c.self.inside.plan c.self.inside.number c.self.inside.rights c.ask.new.self c.push_reserved.new.self.items
 next c =
     let inside = c.self.inside in
     let is = c.self.view_is in
-    let reply : c.in_ok-kept.kept ≡ ask_reply inside.plan.buffer c.args.txn c.args.range.now (tree_at inside.trees.items c.args.tree) = search rules in
-    sequential_to inside.plan inside.rights inside.trees.items c.ask_in.new.trees.items inside.mine.items c.push_reserved.new.self.items
-    (record { place = inside.plan.first + c.len.result; event = record { pass = 0; txn = c.args.txn; deed = Ask c.args.tree c.args.range.now c.in_ok-kept.kept } }) _
+    let reply : c.in_ok-kept.kept ≡ ask_reply inside.plan.buffer c.args.txn c.args.range.now (tree_at inside.trees c.args.tree) = search rules in
+    sequential_to inside.plan inside.number inside.rights inside.trees c.ask.new.self inside.mine.items c.push_reserved.new.self.items
+    (record { place = inside.plan.first + c.len.result; event = record { pass = inside.number; txn = c.args.txn; deed = Ask c.args.tree c.args.range.now c.in_ok-kept.kept } }) _
     c.self.invariant
     (record {
       pass = refl;
@@ -36,4 +36,4 @@ pub invariant_of-self-2 : goal.invariant_of-self-2
 invariant_of-self-2 c = next c
 
 pub returns-clause-sound : goal.returns-clause-sound
-returns-clause-sound c = sound_of _ _ _ _ _ (next c)
+returns-clause-sound c = sound_of _ _ _ _ _ _ (next c)

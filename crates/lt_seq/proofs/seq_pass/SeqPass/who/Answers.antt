@@ -6,20 +6,20 @@ use Rattle.lt_seq.specs.Pairs.{others}
 use Rattle.lt_seq.specs.Table.{tree_at}
 use Rattle.lt_seq.proofs.seq_pass.SeqPass.who.Goals as goal
 
-pub owners_in-requires : goal.owners_in-requires
-owners_in-requires c = omega (arith, trees_there _ _ _ _ c.self.invariant, ap (λ p. p.plan.trees) c.self.view_is)
+pub owners-requires : goal.owners-requires
+owners-requires c = omega (arith, trees_there _ _ _ _ _ c.self.invariant, ap (λ p. p.plan.trees) c.self.view_is)
 
-pub who_in-requires : goal.who_in-requires
-who_in-requires c = omega (arith, trees_there _ _ _ _ c.self.invariant, ap (λ p. p.plan.trees) c.self.view_is)
+pub end_for-requires : goal.end_for-requires
+end_for-requires c = omega (arith, trees_there _ _ _ _ _ c.self.invariant, ap (λ p. p.plan.trees) c.self.view_is)
 
 -- the pass once it has the receipt
-next : (c : goal.After-named-2) → IsSequential c.self.inside.plan c.self.inside.rights c.who_in.new.trees.items c.push_reserved.new.self.items
+next : (c : goal.After-receipt-2) → IsSequential c.self.inside.plan c.self.inside.number c.self.inside.rights c.end_for.new.self c.push_reserved.new.self.items
 next c =
     let inside = c.self.inside in
     let is = c.self.view_is in
-    let owners : c.in_ok-kept.kept ≡ others c.args.as_txn c.args.range.now (tree_at inside.trees.items c.args.tree).pairs = search rules in
-    sequential_to inside.plan inside.rights inside.trees.items c.who_in.new.trees.items inside.mine.items c.push_reserved.new.self.items
-    (record { place = inside.plan.first + c.len.result; event = record { pass = 0; txn = c.args.txn; deed = Who c.args.tree c.args.range.now c.args.as_txn c.in_ok-kept.kept } }) _
+    let owners : c.in_ok-kept.kept ≡ others c.args.as_txn c.args.range.now (tree_at inside.trees c.args.tree).pairs = search rules in
+    sequential_to inside.plan inside.number inside.rights inside.trees c.end_for.new.self inside.mine.items c.push_reserved.new.self.items
+    (record { place = inside.plan.first + c.len.result; event = record { pass = inside.number; txn = c.args.txn; deed = Who c.args.tree c.args.range.now c.args.as_txn c.in_ok-kept.kept } }) _
     c.self.invariant
     (record {
       pass = refl;
@@ -37,4 +37,4 @@ pub invariant_of-self-2 : goal.invariant_of-self-2
 invariant_of-self-2 c = next c
 
 pub returns-clause-sound : goal.returns-clause-sound
-returns-clause-sound c = sound_of _ _ _ _ _ (next c)
+returns-clause-sound c = sound_of _ _ _ _ _ _ (next c)
