@@ -5,6 +5,7 @@ use Rattle.lt_seq.specs.declared.event.Receipt.{Receipt}
 use Rattle.lt_seq.specs.declared.plan.YardPlan.{YardPlan}
 use Rattle.lt_seq.specs.Table.{Setting, TreeState, step, tree_at, tree_of, tree_after, replied, used}
 use Rattle.lt_seq.specs.Pairs.{IsLawful}
+use Rattle.lt_seq.specs.Sound.{IsSoundTree}
 use Rattle.lt_seq.proofs.LawfulLaws.{sound_history}
 use Rattle.lt_seq.proofs.TableLaws.{length-after, used_most}
 use Rattle.lt_seq.specs.History.{after, IsNext, IsLegal, IsQuestion, calls_from}
@@ -19,10 +20,13 @@ use Rattle.lt_seq.specs.SeqPass.{plain, alone_view, origin_in, Planned, IsSequen
 pub trees_there : (plan : YardPlan) (number rights : ℕ) (trees : List TreeState) (mine : List Receipt) → IsSequential plan number rights trees mine → length trees ≡ plan.trees
 trees_there plan number rights trees mine seq = ap length seq.trees ∙ length-after (plain plan) (events_of mine)
 
--- and each has lawful pairs
+-- and each is sound, so that its pairs are lawful
+pub sound_there : (plan : YardPlan) (number rights : ℕ) (trees : List TreeState) (mine : List Receipt) (tree : ℕ) → IsSequential plan number rights trees mine → IsSoundTree (tree_at trees tree)
+sound_there plan number rights trees mine tree seq =
+    subst (λ ts. IsSoundTree (tree_at ts tree)) (sym seq.trees) (sound_history (plain plan) (events_of mine) seq.legal tree)
+
 pub lawful_there : (plan : YardPlan) (number rights : ℕ) (trees : List TreeState) (mine : List Receipt) (tree : ℕ) → IsSequential plan number rights trees mine → IsLawful (tree_at trees tree).pairs
-lawful_there plan number rights trees mine tree seq =
-    subst (λ ts. IsLawful (tree_at ts tree).pairs) (sym seq.trees) (sound_history (plain plan) (events_of mine) seq.legal tree).lawful
+lawful_there plan number rights trees mine tree seq = (sound_there plan number rights trees mine tree seq).lawful
 
 pub length-events_of : (mine : List Receipt) → length (events_of mine) ≡ length mine
 length-events_of [] = refl

@@ -1,4 +1,5 @@
 pub mod Pairs
+pub mod Window
 pub mod Table
 pub mod Sound
 pub mod History

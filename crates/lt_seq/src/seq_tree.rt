@@ -2,6 +2,7 @@
 ghost use Rattle.std.specs.Prelude.{◌≡◌, ◌++◌, [], length, OnOk, OnErr, IfOk};
 ghost use Rattle.lt_seq.specs.Table.{fresh, rows_in, ended, is_whole, is_buffered, ask_reply, after_ask, free_count, after_free, mode_asked, held_in};
 ghost use Rattle.lt_seq.specs.Pairs.{IsLawful, others, joined};
+ghost use Rattle.lt_seq.specs.Sound.{IsSoundTree};
 
 use crate::event::{Held, Mode, Pair, Reply};
 use crate::lists::Owners;
@@ -82,6 +83,7 @@ impl SeqTree {
         txn: u64,
         range: &KeyRange,
     ) -> Result<Reply, AllocError>
+        requires { IsLawful self.now.pairs }
         ensures { IfOk result (λ reply. reply ≡ ask_reply buffer txn range.now self.now) }
     {
         if self.is_buffered(buffer, txn) {
@@ -103,7 +105,8 @@ impl SeqTree {
         range: &KeyRange,
         reply: &Reply,
     ) -> Result<(), AllocError>
-        requires { reply.now ≡ ask_reply buffer txn range.now self.old }
+        requires sound { IsSoundTree self.old }
+        requires reply { reply.now ≡ ask_reply buffer txn range.now self.old }
         ensures ok { OnOk result (self.new ≡ after_ask buffer txn range.now self.old) }
         ensures err { OnErr result (self.new ≡ self.old) }
     {
@@ -130,6 +133,7 @@ impl SeqTree {
 
     /// Does what a free does, and answers its count.
     pub(crate) fn free(&mut self, txn: u64, range: &KeyRange, first: bool) -> u64
+        requires { IsLawful self.old.pairs }
         ensures count { result ≡ free_count txn range.now self.old }
         ensures after { self.new ≡ after_free txn range.now first self.old }
     {
@@ -157,6 +161,7 @@ impl SeqTree {
         named: u64,
         range: &KeyRange,
     ) -> Result<Owners, AllocError>
+        requires { IsLawful self.now.pairs }
         ensures { IfOk result (λ owners. owners ≡ others named range.now self.now.pairs) }
     {
         Ok(Owners::of(others_of(alloc, &self.pairs, named, range)?))

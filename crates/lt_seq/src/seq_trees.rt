@@ -2,6 +2,7 @@
 ghost use Rattle.std.specs.Prelude.{◌≡◌, ◌^◌, ◌≤◌, ◌<◌, [], replicate, length, slice_set, OnOk, OnErr, IfOk};
 ghost use Rattle.lt_seq.specs.Table.{fresh, tree_at, used, ask_reply, after_ask, free_count, after_free, mode_asked, ended};
 ghost use Rattle.lt_seq.specs.Pairs.{IsLawful, others, joined};
+ghost use Rattle.lt_seq.specs.Sound.{IsSoundTree};
 ghost use Rattle.lt_seq.specs.Passes.{held_from};
 
 use crate::event::{Held, Pair, Reply};
@@ -59,7 +60,8 @@ impl SeqTrees {
         txn: u64,
         range: &KeyRange,
     ) -> Result<Reply, AllocError>
-        requires { tree < length self.now }
+        requires tree { tree < length self.now }
+        requires lawful { IsLawful (tree_at self.now tree).pairs }
         ensures { IfOk result (λ reply. reply ≡ ask_reply buffer txn range.now (tree_at self.now tree)) }
     {
         self.list[tree as usize].reply(alloc, buffer, txn, range)
@@ -75,6 +77,7 @@ impl SeqTrees {
         reply: &Reply,
     ) -> Result<(), AllocError>
         requires tree { tree < length self.old }
+        requires sound { IsSoundTree (tree_at self.old tree) }
         requires reply { reply.now ≡ ask_reply buffer txn range.now (tree_at self.old tree) }
         ensures ok { OnOk result (self.new ≡ slice_set self.old tree (after_ask buffer txn range.now (tree_at self.old tree))) }
         ensures err { OnErr result (self.new ≡ self.old) }
@@ -84,7 +87,8 @@ impl SeqTrees {
 
     /// Does in a tree what a free does, and answers its count.
     pub(crate) fn free(&mut self, tree: u32, txn: u64, range: &KeyRange, first: bool) -> u64
-        requires { tree < length self.old }
+        requires tree { tree < length self.old }
+        requires lawful { IsLawful (tree_at self.old tree).pairs }
         ensures count { result ≡ free_count txn range.now (tree_at self.old tree) }
         ensures after { self.new ≡ slice_set self.old tree (after_free txn range.now first (tree_at self.old tree)) }
     {
@@ -99,7 +103,8 @@ impl SeqTrees {
         named: u64,
         range: &KeyRange,
     ) -> Result<Owners, AllocError>
-        requires { tree < length self.now }
+        requires tree { tree < length self.now }
+        requires lawful { IsLawful (tree_at self.now tree).pairs }
         ensures { IfOk result (λ owners. owners ≡ others named range.now (tree_at self.now tree).pairs) }
     {
         self.list[tree as usize].owners(alloc, named, range)

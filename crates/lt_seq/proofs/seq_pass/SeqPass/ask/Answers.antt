@@ -1,15 +1,21 @@
 use Rattle.std.proofs.Common.{◌≡◌, ap, arith, rules, refl, ◌+◌, length}
-use Rattle.lt_seq.proofs.SeqLaws.{trees_there, sequential_to, sound_of, length-events_of}
+use Rattle.lt_seq.proofs.SeqLaws.{trees_there, sound_there, lawful_there, sequential_to, sound_of, length-events_of}
 use Rattle.lt_seq.specs.declared.event.Deed.TheVariants.{Ask}
 use Rattle.lt_seq.specs.SeqPass.{IsSequential}
 use Rattle.lt_seq.specs.Table.{ask_reply, tree_at}
 use Rattle.lt_seq.proofs.seq_pass.SeqPass.ask.Goals as goal
 
-pub reply-requires : goal.reply-requires
-reply-requires c = omega (arith, trees_there _ _ _ _ _ c.self.invariant, ap (λ p. p.plan.trees) c.self.view_is)
+pub reply-requires-clause-tree : goal.reply-requires-clause-tree
+reply-requires-clause-tree c = omega (arith, trees_there _ _ _ _ _ c.self.invariant, ap (λ p. p.plan.trees) c.self.view_is)
 
 pub ask-requires-clause-tree : goal.ask-requires-clause-tree
 ask-requires-clause-tree c = omega (arith, trees_there _ _ _ _ _ c.self.invariant, ap (λ p. p.plan.trees) c.self.view_is)
+
+pub reply-requires-clause-lawful : goal.reply-requires-clause-lawful
+reply-requires-clause-lawful c = lawful_there _ _ _ _ _ c.args.tree c.self.invariant
+
+pub ask-requires-clause-sound : goal.ask-requires-clause-sound
+ask-requires-clause-sound c = sound_there _ _ _ _ _ c.args.tree c.self.invariant
 
 -- the pass once it has the receipt
 next : (c : goal.After-receipt-2) → IsSequential c.self.inside.plan c.self.inside.number c.self.inside.rights c.ask.new.self c.push_reserved.new.self.items

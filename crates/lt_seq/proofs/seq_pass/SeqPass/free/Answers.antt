@@ -1,11 +1,14 @@
 use Rattle.std.proofs.Common.{ap, arith, rules, refl, ◌+◌, length}
-use Rattle.lt_seq.proofs.SeqLaws.{trees_there, sequential_to, sound_of, length-events_of}
+use Rattle.lt_seq.proofs.SeqLaws.{trees_there, lawful_there, sequential_to, sound_of, length-events_of}
 use Rattle.lt_seq.specs.declared.event.Deed.TheVariants.{Free}
 use Rattle.lt_seq.specs.SeqPass.{IsSequential}
 use Rattle.lt_seq.proofs.seq_pass.SeqPass.free.Goals as goal
 
-pub free-count-requires : goal.free-count-requires
-free-count-requires c = omega (arith, trees_there _ _ _ _ _ c.self.invariant, ap (λ p. p.plan.trees) c.self.view_is)
+pub free-count-requires-clause-tree : goal.free-count-requires-clause-tree
+free-count-requires-clause-tree c = omega (arith, trees_there _ _ _ _ _ c.self.invariant, ap (λ p. p.plan.trees) c.self.view_is)
+
+pub free-count-requires-clause-lawful : goal.free-count-requires-clause-lawful
+free-count-requires-clause-lawful c = lawful_there _ _ _ _ _ c.args.tree c.self.invariant
 
 -- the pass once it has the receipt
 next : (c : goal.After-receipt-2) → IsSequential c.self.inside.plan c.self.inside.number c.self.inside.rights c.free-count.new.self c.push_reserved.new.self.items

@@ -1,16 +1,19 @@
 use Rattle.std.proofs.Common.{◌≡◌, ap, arith, rules, refl, ◌+◌, length}
-use Rattle.lt_seq.proofs.SeqLaws.{trees_there, sequential_to, sound_of, length-events_of}
+use Rattle.lt_seq.proofs.SeqLaws.{trees_there, lawful_there, sequential_to, sound_of, length-events_of}
 use Rattle.lt_seq.specs.declared.event.Deed.TheVariants.{Who}
 use Rattle.lt_seq.specs.SeqPass.{IsSequential}
 use Rattle.lt_seq.specs.Pairs.{others}
 use Rattle.lt_seq.specs.Table.{tree_at}
 use Rattle.lt_seq.proofs.seq_pass.SeqPass.who.Goals as goal
 
-pub owners-requires : goal.owners-requires
-owners-requires c = omega (arith, trees_there _ _ _ _ _ c.self.invariant, ap (λ p. p.plan.trees) c.self.view_is)
+pub owners-requires-clause-tree : goal.owners-requires-clause-tree
+owners-requires-clause-tree c = omega (arith, trees_there _ _ _ _ _ c.self.invariant, ap (λ p. p.plan.trees) c.self.view_is)
 
 pub end_for-requires : goal.end_for-requires
 end_for-requires c = omega (arith, trees_there _ _ _ _ _ c.self.invariant, ap (λ p. p.plan.trees) c.self.view_is)
+
+pub owners-requires-clause-lawful : goal.owners-requires-clause-lawful
+owners-requires-clause-lawful c = lawful_there _ _ _ _ _ c.args.tree c.self.invariant
 
 -- the pass once it has the receipt
 next : (c : goal.After-receipt-2) → IsSequential c.self.inside.plan c.self.inside.number c.self.inside.rights c.end_for.new.self c.push_reserved.new.self.items
