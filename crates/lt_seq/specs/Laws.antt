@@ -1,5 +1,5 @@
 -- The laws of the table, clause by clause.
-use Rattle.std.specs.Prelude.{◌≡◌, ◌≢◌, ℕ, ◌+◌, ◌<◌, ◌≤◌, ◌==◌, ◌&&◌, List, [], ◌∷◌, ◌++◌, length, map, take, Result, true}
+use Rattle.std.specs.Prelude.{◌≡◌, ◌≢◌, ℕ, ◌+◌, ◌-◌, ◌<◌, ◌≤◌, ◌==◌, ◌&&◌, List, [], ◌∷◌, ◌++◌, length, map, take, Result, true}
 use Rattle.std.specs.List.{list_any, Contains}
 use Rattle.std.specs.List.Sorted.{IsStrictlyIncreasing}
 use Rattle.lt_ranges.specs.declared.key.Key.{Key}
@@ -18,7 +18,7 @@ use Rattle.lt_seq.specs.Sound.{IsLawfulTable}
 use Rattle.lt_seq.specs.KeepsLocks.{KeepsLocks}
 use Rattle.lt_seq.specs.Table.{Setting, TreeState, opening, step, tree_at, used}
 use Rattle.lt_seq.specs.History.{after, IsLegal, IsNext, calls_from}
-use Rattle.lt_seq.specs.Yard.{PassView, NoteView, HasAll, Answers, AskAnswers, place_after, places_end}
+use Rattle.lt_seq.specs.Yard.{PassView, NoteView, HasAll, Answers, AskAnswers, Shares, Learns, OneMore, place_after, places_end}
 use Rattle.lt_seq.specs.Passes.{RightsAndFronts, opening_passes, IsInOneList}
 use Rattle.lt_seq.specs.Questions.{all_receipts}
 use Rattle.lt_seq.specs.Alone.{AloneAnswers, AloneAskAnswers, IsDone, IsDoneOrOutOfLocks}
@@ -99,6 +99,27 @@ abbrev pub AllRightsSeeAll : Type 0
 AllRightsSeeAll =
     (setting : Setting) (history : List Event) (passes : List PassView) (notes : List NoteView) (pass : PassView)
     → RightsAndFronts setting history passes notes → Contains passes pass → HasAll setting pass → pass.front ≡ history
+
+-- a pass that shares keeps it so
+abbrev pub SharesKeep : Type 0
+SharesKeep =
+    (setting : Setting) (history : List Event) (before behind : List PassView) (notes : List NoteView) (pass : PassView) (rights : ℕ) (note : NoteView)
+    → RightsAndFronts setting history (before ++ pass ∷ behind) notes → rights ≤ pass.rights → Shares setting pass rights note
+    → RightsAndFronts setting history (before ++ record pass { rights = pass.rights - rights } ∷ behind) (note ∷ notes)
+
+-- and one that learns
+abbrev pub LearnsKeep : Type 0
+LearnsKeep =
+    (setting : Setting) (history : List Event) (before behind : List PassView) (earlier later : List NoteView) (old new : PassView) (note : NoteView)
+    → RightsAndFronts setting history (before ++ old ∷ behind) (earlier ++ note ∷ later) → Learns setting old note new
+    → RightsAndFronts setting history (before ++ new ∷ behind) (earlier ++ later)
+
+-- and an event of a pass that has all the rights, which is the history's next
+abbrev pub EventsKeep : Type 0
+EventsKeep =
+    (setting : Setting) (history : List Event) (before behind : List PassView) (notes : List NoteView) (old new : PassView) (txn : ℕ) (deed : Deed) (receipt : Receipt)
+    → RightsAndFronts setting history (before ++ old ∷ behind) notes → HasAll setting old → OneMore setting old new txn deed receipt
+    → RightsAndFronts setting (history ++ receipt.event ∷ []) (before ++ new ∷ behind) notes
 
 -- each receipt of a legal history is in the list of its pass and in no other
 abbrev pub EachIsInOneList : Type 0
