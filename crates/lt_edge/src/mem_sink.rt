@@ -1,3 +1,4 @@
+//! A sink in memory.
 ghost use Rattle.std.specs.Prelude.{◌≡◌, ◌<◌, ◌-◌, ◌↔◌, ◌⊎◌, ◌++◌, List, [], length, take, Contains, IsErr, IfOk, OnErr, Some};
 ghost use Rattle.lt_edge.specs.Bytes.{Takes};
 ghost use Rattle.lt_edge.specs.Causes.{HasCause, counted};
@@ -5,11 +6,13 @@ ghost use Rattle.lt_edge.specs.Memory.{piece_len};
 
 use crate::piece::next_len;
 use crate::{Failed, Sink};
-use std::alloc::{AllocError as OutOfMemory, Global};
+use std::alloc::{AllocError, Global};
 use std::marker::Model;
 
-/// A sink that keeps what it takes, up to its room. A put fails exactly where its number, from 0, is listed or the
-/// sink is full, and otherwise takes the least of its piece (1 where that is 0), the length of the bytes and the room left.
+/// A sink that keeps what it takes, up to its room.
+///
+/// A put fails exactly where its number, from 0, is listed or the sink is full. Otherwise it takes the least of its piece
+/// (1 where that is 0), the length of the bytes and the room left.
 #[derive(Drop)]
 pub struct MemSink {
     store: Vec<u8>,
@@ -45,7 +48,7 @@ impl MemSink {
         room: usize,
         piece: usize,
         failing: Vec<u64>,
-    ) -> Result<MemSink, OutOfMemory>
+    ) -> Result<MemSink, AllocError>
         ensures { IfOk result (λ s. s ≡ record {
           taken = [];
           room = room;
@@ -85,7 +88,8 @@ impl Sink for MemSink {
         ensures cause { HasCause self.old.faults self.new.faults result }
 
         ensures fails { IsErr result ↔ (Contains self.old.failing self.old.calls ⊎ (length self.old.taken ≡ self.old.room)) }
-        ensures count { IfOk result (λ n. n ≡ piece_len self.old.piece (length bytes.now) (self.old.room - length self.old.taken)) }
+        ensures count { IfOk result (λ n.
+            n ≡ piece_len self.old.piece (length bytes.now) (self.old.room - length self.old.taken)) }
         ensures put { IfOk result (λ n. self.new ≡ record self.old {
           taken = self.old.taken ++ take n bytes.now;
           calls = counted self.old.calls;

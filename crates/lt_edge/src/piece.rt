@@ -1,3 +1,4 @@
+//! The length of a piece.
 ghost use Rattle.std.specs.Prelude.{◌≡◌};
 ghost use Rattle.lt_edge.specs.Memory.{piece_len};
 

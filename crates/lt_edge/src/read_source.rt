@@ -1,3 +1,4 @@
+//! A source over a reader of std.
 ghost use Rattle.std.specs.Prelude.{◌≡◌, OnErr, ◌<◌, length};
 ghost use Rattle.std.specs.Io.{ReadsAtMost};
 ghost use Rattle.std.specs.Io.KnownBytes.{ReadConsumes};

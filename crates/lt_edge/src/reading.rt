@@ -1,14 +1,15 @@
+//! Reading a source to its end.
 ghost use Rattle.std.specs.Prelude.{◌≡◌, ◌≢◌, ◌<◌, ◌≤◌, vec_len, IfOk, OnErr, Err};
 ghost use Rattle.std.specs.Io.KnownBytes.{Consumes, IsAtEnd};
 ghost use Rattle.lt_edge.specs.Bytes.{ReadsUpTo, ConsumesUpTo};
 ghost use Rattle.lt_edge.specs.Causes.{Rose};
 
 use crate::Source;
-use std::alloc::Global;
+use std::alloc::{AllocError, Global};
 use thiserror::Error;
 
 /// Why not all was read.
-#[derive(Clone, Copy, Debug, PartialEq, Eq, Error)]
+#[derive(Clone, Copy, Debug, PartialEq, Eq, Hash, Error)]
 pub enum ReadFault {
     /// The bytes that were read found no room.
     #[error("out of memory")]
@@ -16,6 +17,17 @@ pub enum ReadFault {
     /// A call of the source failed.
     #[error("the input failed")]
     Failed,
+}
+
+impl From<AllocError> for ReadFault {
+    ghost use Rattle.std.specs.Prelude.{◌≡◌};
+    ghost use Rattle.lt_edge.specs.declared.reading.ReadFault.TheVariants.{OutOfMemory};
+
+    ghost from_gives = { λ _ fault. fault ≡ OutOfMemory };
+
+    fn from(_error: AllocError) -> ReadFault {
+        ReadFault::OutOfMemory
+    }
 }
 
 /// How many bytes one call of a source is asked for.
@@ -48,9 +60,7 @@ pub fn read_all<S: Source>(
         if n == 0 {
             return Ok(all);
         }
-        if all.extend_from_slice(&buf[..n]).is_err() {
-            return Err(ReadFault::OutOfMemory);
-        }
+        all.extend_from_slice(&buf[..n])?;
     }
     Ok(all)
 }

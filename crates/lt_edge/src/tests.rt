@@ -1,7 +1,7 @@
 // What no clause says: that the calls succeed where memory is ample, how much each put is lent, and what std's
 // readers and writers do behind the two adapters.
 use crate::{
-    Failed, MemSink, MemSource, ReadFault, ReadSource, Sink, WriteSink, put_all, read_all,
+    Failed, MemSink, MemSource, ReadFault, ReadSource, Sink, Source, WriteSink, put_all, read_all,
 };
 use std::test::Fail;
 
@@ -21,8 +21,8 @@ fn reading_goes_on_after_a_fault(rt: HostRuntime) -> Result<(), Fail> {
     let alloc = rt.alloc();
     let text = b"the first sixteen bytes, and some more of them after it";
     let mut source = MemSource::new(text.to_vec(alloc)?, 16, vec![in alloc; 2u64]?);
-    let failed = matches!(read_all(alloc, &mut source, 1000), Err(ReadFault::Failed));
-    assert!(rt; failed);
+    let first = read_all(alloc, &mut source, 1000);
+    assert_eq!(rt; first.err(), Some(ReadFault::Failed));
     let rest = read_all(alloc, &mut source, 1000)?;
     assert_eq!(rt; rest.as_slice(), b"e more of them after it".as_slice());
     Ok(())
@@ -61,6 +61,15 @@ fn std_readers_and_writers_serve(rt: HostRuntime) -> Result<(), Fail> {
     let rest = read_all(alloc, &mut source, 100)?;
     assert_eq!(rt; first.as_slice(), b"range".as_slice());
     assert_eq!(rt; rest.as_slice(), b" locks".as_slice());
+
+    // One call moves all that has room.
+    let mut piece = [0u8; 5];
+    let mut source = ReadSource::new(b"range locks".as_slice());
+    assert_eq!(rt; source.next(&mut piece), Ok(5));
+    assert_eq!(rt;
+        WriteSink::new([0u8; 7].as_mut_slice()).put(b"range"),
+        Ok(5)
+    );
 
     let mut room = [0u8; 7];
     let mut sink = WriteSink::new(room.as_mut_slice());

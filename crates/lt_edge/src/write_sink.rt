@@ -1,3 +1,4 @@
+//! A sink over a writer of std.
 ghost use Rattle.std.specs.Prelude.{◌≡◌, OnErr, ◌<◌, length};
 ghost use Rattle.lt_edge.specs.Bytes.{Takes};
 ghost use Rattle.lt_edge.specs.Causes.{HasCause, counted};
