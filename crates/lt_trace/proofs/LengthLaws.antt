@@ -8,7 +8,7 @@ use Rattle.lt_trace.specs.declared.fault.TraceFault.{TraceFault}
 use Rattle.lt_trace.specs.declared.fault.TraceFault.TheVariants as fault
 use Rattle.lt_trace.specs.declared.line.Line.{Line}
 use Rattle.lt_trace.specs.Trace.{TraceView}
-use Rattle.lt_trace.specs.Grammar.{most_bytes, most_line_bytes, most_lines, HeaderForm, header_forms, header_line, header_text, AreInForm, next_form, TextLine, first_line, fault_of_text, fault_of_form, version_in, trees_in, line_text, Forms, AreFaultless, IsBody, Front, IsFront, front_text, whole, Spells, IsNoHeader, IsFirst, IsHeaderFault, IsBodyFault, HasFault, IsFirstFault}
+use Rattle.lt_trace.specs.Grammar.{deciding_bytes, most_line_bytes, most_lines, HeaderForm, header_forms, header_line, header_text, AreInForm, next_form, TextLine, first_line, fault_of_text, fault_of_form, version_in, trees_in, line_text, Forms, AreFaultless, IsBody, Front, IsFront, front_text, whole, Spells, IsNoHeader, IsFirst, IsHeaderFault, IsBodyFault, HasFault, IsFirstFault}
 use Rattle.lt_trace.proofs.FrontLaws.{IsPlain, plain_forms, no_body}
 
 -- How long a front is.
@@ -141,7 +141,7 @@ body_decided header before (b ∷ bs) more f long is =
     first_decided number (λ t g. (form : Option Line) × Forms (version_in header) t.bytes form × (fault_of_form number (trees_in header) before form ≡ Some g))
     (first_line (b ∷ bs)) (first_line (b ∷ bs ++ more)) f (decided number (b ∷ bs) more long) is
 
-there_decided : (next : Option HeaderForm) (front : Front) (rest more : List ℕ) (f : TraceFault) → IsFront front → next_form header_forms front.header ≡ next → most_bytes ≤ length (front_text front) + length rest → HasFault next front rest f → HasFault next front (rest ++ more) f
+there_decided : (next : Option HeaderForm) (front : Front) (rest more : List ℕ) (f : TraceFault) → IsFront front → next_form header_forms front.header ≡ next → deciding_bytes ≤ length (front_text front) + length rest → HasFault next front rest f → HasFault next front (rest ++ more) f
 there_decided (Some form) front rest more f is next long wrong =
     let none = no_body front.header front.lines form is.body next in
     let few = ap (length {A = Line}) none in
@@ -151,7 +151,7 @@ there_decided None front rest more f is next long wrong =
     let fits = front_fits front is in
     body_decided front.header front.lines rest more f (λ low. omega (arith, fits.0)) wrong
 
-pub first_bytes_decide : (bytes more : List ℕ) (f : TraceFault) → most_bytes ≤ length bytes → IsFirstFault bytes f → IsFirstFault (bytes ++ more) f
+pub first_bytes_decide : (bytes more : List ℕ) (f : TraceFault) → deciding_bytes ≤ length bytes → IsFirstFault bytes f → IsFirstFault (bytes ++ more) f
 first_bytes_decide bytes more f long refused =
     let front = refused.0 in
     let rest = refused.1 in (
@@ -162,7 +162,7 @@ first_bytes_decide bytes more f long refused =
       there_decided (next_form header_forms front.header) front rest more f refused.2 refl (omega (arith, ap length refused.3, length-append (front_text front) rest)) refused.4,
     )
 
-pub traces_are_short : (bytes : List ℕ) (trace : TraceView) → Spells bytes trace → length bytes < most_bytes
+pub traces_are_short : (bytes : List ℕ) (trace : TraceView) → Spells bytes trace → length bytes < deciding_bytes
 traces_are_short bytes trace spelled =
     let fits = front_fits (whole trace) spelled.0 in
     omega (arith, ap length spelled.1, fits.0, fits.1)

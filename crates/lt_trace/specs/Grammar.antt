@@ -1,5 +1,6 @@
 -- The grammar of traces: how each one is spelled, and which line of other bytes is the first faulty one.
-use Rattle.std.specs.Prelude.{◌≡◌, ◌≢◌, ℕ, ◌+◌, ◌^◌, ◌<◌, ◌≤◌, List, [], ◌∷◌, ◌++◌, map, length, Option, Some, None, Bool, true, false, ◌&&◌, ◌||◌, ◌==◌, not, nat_lt, nat_le, if◌then◌else◌, codes, decimal}
+use Rattle.std.specs.Prelude.{◌≡◌, ◌≢◌, ℕ, ◌+◌, ◌*◌, ◌^◌, ◌<◌, ◌≤◌, List, [], ◌∷◌, ◌++◌, map, length, Option, Some, None}
+use Rattle.std.specs.Prelude.{Bool, true, false, ◌&&◌, ◌||◌, ◌==◌, not, nat_lt, nat_le, if◌then◌else◌, codes, decimal}
 use Rattle.std.specs.List.{flat_map, list_any}
 use Rattle.std.specs.Option.{option_or}
 use Rattle.lt_ranges.specs.declared.key.Key.{Key}
@@ -25,9 +26,9 @@ most_lines = 65540
 abbrev pub most_line_bytes : ℕ
 most_line_bytes = 600
 
--- of what is to be read of a text: one more than that many lines of that many bytes, each with a newline
-abbrev pub most_bytes : ℕ
-most_bytes = 39389541
+-- as many bytes decide what a text is: one more than that many lines of that many bytes, each with a newline
+abbrev pub deciding_bytes : ℕ
+deciding_bytes = most_lines * (most_line_bytes + 1) + 1
 
 -- of the transactions that have lines
 abbrev pub most_txns : ℕ
@@ -202,13 +203,15 @@ fault_of_deed number trees deed =
 abbrev pub fault_of_turn : ℕ → List Line → ℕ → Option TraceFault
 fault_of_turn number before txn =
     if has_ended txn before then Some (fault.AfterEnd number)
-    else if not (has_begun txn before) && nat_le most_txns (length (txns_of before)) then Some (fault.TooManyTxns number)
+    else if not (has_begun txn before) && nat_le most_txns (length (txns_of before))
+    then Some (fault.TooManyTxns number)
     else None
 
 -- the rows of a body line, behind these lines
 abbrev pub fault_of_form : ℕ → ℕ → List Line → Option Line → Option TraceFault
 fault_of_form number trees before None = Some (fault.BadLine number)
-fault_of_form number trees before (Some line) = option_or (fault_of_deed number trees line.deed) (fault_of_turn number before line.txn)
+fault_of_form number trees before (Some line) =
+    option_or (fault_of_deed number trees line.deed) (fault_of_turn number before line.txn)
 
 -- Traces, and what lines before a faulty one may be.
 
@@ -249,10 +252,12 @@ pub record IsFront (front : Front) : Type 0 where
 
 -- the spelling
 abbrev pub front_text : Front → List ℕ
-front_text front = header_text header_forms front.header ++ flat_map (λ line. line_text line ++ codes "\n") front.lines
+front_text front =
+    header_text header_forms front.header ++ flat_map (λ line. line_text line ++ codes "\n") front.lines
 
 abbrev pub whole : TraceView → Front
-whole trace = record { header = trace.version ∷ trace.trees ∷ trace.limit ∷ trace.buffer ∷ []; lines = trace.lines }
+whole trace =
+    record { header = trace.version ∷ trace.trees ∷ trace.limit ∷ trace.buffer ∷ []; lines = trace.lines }
 
 -- the numbers of a trace are in their ranges, and its lines have no fault
 abbrev pub IsTrace : TraceView → Type 0
@@ -291,7 +296,8 @@ IsBodyFault header before (b ∷ bs) f =
     let text = first_line (b ∷ bs) in
     let number = 5 + length before in
     IsFirst (fault_of_text number text)
-    (λ g. (form : Option Line) × Forms (version_in header) text.bytes form × (fault_of_form number (trees_in header) before form ≡ Some g)) f
+    (λ g. (form : Option Line) × Forms (version_in header) text.bytes form
+    × (fault_of_form number (trees_in header) before form ≡ Some g)) f
 
 -- the line that the rest begins with, behind this front, has the fault
 abbrev pub HasFault : Option HeaderForm → Front → List ℕ → TraceFault → Type 0

@@ -18,7 +18,8 @@ pub const MOST_TXNS: usize = 1_024;
 
 /// The deed that a line asks for, unless its tree or its keys are a fault.
 fn deed_of(trees: u32, number: u32, said: Said) -> Result<LineDeed, TraceFault>
-    ensures found { (deed : LineDeed) → Says said deed → IfOk result (λ found. (found ≡ deed) × (fault_of_deed number trees deed ≡ None)) }
+    ensures found { (deed : LineDeed) → Says said deed →
+        IfOk result (λ found. (found ≡ deed) × (fault_of_deed number trees deed ≡ None)) }
     ensures fault { (deed : LineDeed) → Says said deed → IfErr result (λ f. fault_of_deed number trees deed ≡ Some f) }
 {
     let (tree, ends) = match said {
@@ -67,8 +68,6 @@ pub(crate) fn add_line(
     };
     let deed = deed_of(header.trees, number, said)?;
     check_turn(number, body, txn)?;
-    let Ok(()) = body.push(Line { txn, number, deed }) else {
-        return Err(TraceFault::OutOfMemory);
-    };
+    body.push(Line { txn, number, deed })?;
     Ok(())
 }

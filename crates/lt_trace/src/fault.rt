@@ -1,5 +1,6 @@
 //! Why bytes are no trace.
 
+use std::alloc::AllocError;
 use thiserror::Error;
 
 /// Why bytes are no trace: the number of the first faulty line, and what is wrong with it.
@@ -7,7 +8,7 @@ use thiserror::Error;
 /// The faults of a line are looked for in this order: too many lines, line too long, no final newline,
 /// then bad header or bad line, and of a body line that has one of the forms tree out of range, key too
 /// long, backwards, after end and too many txns.
-#[derive(Clone, Copy, Debug, PartialEq, Eq, Error)]
+#[derive(Clone, Copy, Debug, PartialEq, Eq, Hash, Error)]
 pub enum TraceFault {
     /// One of the first four lines isn't its word and a number in its range, or is missing.
     #[error("line {line}: bad header")]
@@ -42,4 +43,15 @@ pub enum TraceFault {
     /// Memory ran out while the trace was read.
     #[error("out of memory")]
     OutOfMemory,
+}
+
+impl From<AllocError> for TraceFault {
+    ghost use Rattle.std.specs.Prelude.{◌≡◌};
+    ghost use Rattle.lt_trace.specs.declared.fault.TraceFault.TheVariants.{OutOfMemory};
+
+    ghost from_gives = { λ _ fault. fault ≡ OutOfMemory };
+
+    fn from(_error: AllocError) -> TraceFault {
+        TraceFault::OutOfMemory
+    }
 }

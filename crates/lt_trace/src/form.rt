@@ -1,11 +1,7 @@
 //! The forms of body lines.
-ghost use Rattle.std.specs.Prelude.{◌≡◌, ◌≢◌, ℕ, ◌<◌, ◌^◌, ◌++◌, ◌∷◌, Some, None, MatchOption, decimal};
-ghost use Rattle.lt_ranges.specs.Interval.{Interval};
-ghost use Rattle.lt_ranges.specs.KeyText.{range_text};
-ghost use Rattle.lt_trace.specs.declared.line.Line.{Line};
-ghost use Rattle.lt_trace.specs.declared.line.LineDeed.{LineDeed};
-ghost use Rattle.lt_trace.specs.Grammar.{Forms, IsDeedForm, IsRangeForm, deed_text};
-ghost use Rattle.lt_trace.specs.Reading.{Says, AreEnds};
+ghost use Rattle.std.specs.Prelude.{None, MatchOption};
+ghost use Rattle.lt_trace.specs.Grammar.{Forms};
+ghost use Rattle.lt_trace.specs.Reading.{IsNoRange, IsRangeOf, IsNoDeed, IsDeedOf, IsFormOf};
 
 use crate::cut::{cut, strip};
 use crate::key_words::{Ends, read_ends};
@@ -23,7 +19,7 @@ pub(crate) enum Said {
 
 /// The tree and the keys of a range: None where the text spells none.
 fn read_range(version: u32, text: &[u8]) -> Option<(u32, Ends)>
-    ensures { MatchOption result ((tree : ℕ) (range : Interval) → tree < 10 ^ 9 → IsRangeForm version range → text.now ≢ decimal tree ++ range_text range) (λ read. (range : Interval) × (read.0 < 10 ^ 9) × IsRangeForm version range × (text.now ≡ decimal read.0 ++ range_text range) × AreEnds read.1 range) }
+    ensures { MatchOption result (IsNoRange version text.now) (λ read. IsRangeOf version text.now read.0 read.1) }
 {
     let (digits, keys) = cut(text, b' ')?;
     let tree = number(digits, 0, MOST_NUMBER)?;
@@ -33,7 +29,7 @@ fn read_range(version: u32, text: &[u8]) -> Option<(u32, Ends)>
 
 /// What stands behind a line's transaction and a space: None where it is none of the forms.
 fn read_deed(version: u32, text: &[u8]) -> Option<Said>
-    ensures { MatchOption result ((deed : LineDeed) → IsDeedForm version deed → 32 ∷ text.now ≢ deed_text deed) (λ said. (deed : LineDeed) × IsDeedForm version deed × (32 ∷ text.now ≡ deed_text deed) × Says said deed) }
+    ensures { MatchOption result (IsNoDeed version text.now) (IsDeedOf version text.now) }
 {
     if let Some(range) = strip(text, b"try ") {
         let (tree, ends) = read_range(version, range)?;
@@ -48,7 +44,7 @@ fn read_deed(version: u32, text: &[u8]) -> Option<Said>
 
 /// The transaction of a body line and what it asks for: None where the line has none of the forms.
 pub(crate) fn read_form(version: u32, text: &[u8]) -> Option<(u64, Said)>
-    ensures { MatchOption result (Forms version text.now None) (λ read. (line : Line) × Forms version text.now (Some line) × (read.0 ≡ line.txn) × Says read.1 line.deed) }
+    ensures { MatchOption result (Forms version text.now None) (λ read. IsFormOf version text.now read.0 read.1) }
 {
     let (digits, rest) = cut(text, b' ')?;
     let txn = number(digits, 1, MOST_NUMBER)?;

@@ -25,7 +25,8 @@ fn header_line<'a>(
     line: u32,
     form: HeaderForm,
 ) -> Result<(u64, &'a [u8]), TraceFault>
-    ensures found { IfOk result (λ r. (form.least ≤ r.0) × (r.0 ≤ form.most) × (bytes.now ≡ header_line (form_of form) r.0 ++ codes "\n" ++ r.1.now)) }
+    ensures found { IfOk result (λ r. (form.least ≤ r.0) × (r.0 ≤ form.most)
+        × (bytes.now ≡ header_line (form_of form) r.0 ++ codes "\n" ++ r.1.now)) }
     ensures fault { IfErr result (λ f. IsHeaderFault (form_of form) line bytes.now f) }
 {
     if bytes.is_empty() {
@@ -39,7 +40,7 @@ fn header_line<'a>(
 }
 
 /// The numbers of a header.
-#[derive(Clone, Copy)]
+#[derive(Clone, Copy, Debug, PartialEq, Eq, Hash)]
 pub(crate) struct Header {
     pub version: u32,
     pub trees: u32,
@@ -49,7 +50,8 @@ pub(crate) struct Header {
 
 /// The header at the front, and the bytes behind it.
 pub(crate) fn read_header(bytes: &[u8]) -> Result<(Header, &[u8]), TraceFault>
-    ensures found { IfOk result (λ r. AreInForm header_forms (numbers r.0) × (bytes.now ≡ header_text header_forms (numbers r.0) ++ r.1.now)) }
+    ensures found { IfOk result (λ r. AreInForm header_forms (numbers r.0)
+        × (bytes.now ≡ header_text header_forms (numbers r.0) ++ r.1.now)) }
     ensures fault { IfErr result (λ f. IsFirstFault bytes.now f) }
 {
     let (version, rest) = header_line(bytes, 1, VERSION)?;

@@ -1,10 +1,9 @@
 //! The keys of a line.
-ghost use Rattle.std.specs.Prelude.{◌≡◌, ◌≢◌, ℕ, ◌≤◌, List, ◌∷◌, ◌++◌, length, Some, IfSome, [], MatchBool, MatchOption, MatchResult, IsSomeAnd, false, IsTrue};
+ghost use Rattle.std.specs.Prelude.{◌≡◌, ◌≢◌, ℕ, ◌≤◌, List, ◌∷◌, ◌++◌, length, Some, IfSome, IsSomeAnd, [], MatchBool, MatchOption};
 ghost use Rattle.lt_ranges.specs.declared.key.Key.{Key};
 ghost use Rattle.lt_ranges.specs.Interval.{Interval};
-ghost use Rattle.lt_ranges.specs.KeyText.{IsOfBytes, is_long, key_text};
-ghost use Rattle.lt_trace.specs.Grammar.{IsKeyForm, IsRangeForm};
-ghost use Rattle.lt_trace.specs.Reading.{IsKeyWord, AreEnds};
+ghost use Rattle.lt_ranges.specs.KeyText.{IsOfBytes, key_text};
+ghost use Rattle.lt_trace.specs.Reading.{IsKeyWord, AreEnds, IsNoKey, IsKeyOf, AreNoKeys, AreKeysOf};
 
 use crate::cut::{cut, strip};
 use lt_ranges::{Key, TextFault};
@@ -35,7 +34,7 @@ fn has_star(text: &[u8]) -> bool
 
 /// The key that the text spells, in this version of the text: None where it spells none.
 fn read_key(version: u32, text: &[u8]) -> Option<KeyWord>
-    ensures { MatchOption result ((key : Key) → IsKeyForm version key → text.now ≢ key_text key) (λ word. (key : Key) × IsKeyForm version key × (text.now ≡ key_text key) × IsKeyWord word key) }
+    ensures { MatchOption result (IsNoKey version text.now) (IsKeyOf version text.now) }
 {
     if version < ENDPOINT_VERSION && has_star(text) {
         return None;
@@ -50,7 +49,8 @@ fn read_key(version: u32, text: &[u8]) -> Option<KeyWord>
 /// How many bytes the key's text has that comes first, before a space.
 fn key_len(text: &[u8]) -> Option<usize>
     ensures within { IfSome result (λ len. len ≤ length text.now) }
-    ensures exact { (key : Key) (rest : List ℕ) → IsOfBytes key → text.now ≡ key_text key ++ 32 ∷ rest → result ≡ Some (length (key_text key)) }
+    ensures exact { (key : Key) (rest : List ℕ) → IsOfBytes key → text.now ≡ key_text key ++ 32 ∷ rest →
+        result ≡ Some (length (key_text key)) }
 {
     if text.is_empty() {
         return None;
@@ -69,7 +69,8 @@ fn key_len(text: &[u8]) -> Option<usize>
 /// The key's text that comes first, and what stands behind the space after it.
 fn cut_key(text: &[u8]) -> Option<(&[u8], &[u8])>
     ensures found { IfSome result (λ parts. text.now ≡ parts.0.now ++ 32 ∷ parts.1.now) }
-    ensures only { (key : Key) (rest : List ℕ) → IsOfBytes key → text.now ≡ key_text key ++ 32 ∷ rest → IsSomeAnd result (λ parts. (parts.0.now ≡ key_text key) × (parts.1.now ≡ rest)) }
+    ensures only { (key : Key) (rest : List ℕ) → IsOfBytes key → text.now ≡ key_text key ++ 32 ∷ rest →
+        IsSomeAnd result (λ parts. (parts.0.now ≡ key_text key) × (parts.1.now ≡ rest)) }
 {
     let len = key_len(text)?;
     let behind = strip(&text[len..], b" ")?;
@@ -88,7 +89,7 @@ fn ends_of(left: KeyWord, right: KeyWord) -> Ends
 
 /// The two keys of a range: None where the text spells none.
 pub(crate) fn read_ends(version: u32, text: &[u8]) -> Option<Ends>
-    ensures { MatchOption result ((range : Interval) → IsRangeForm version range → text.now ≢ key_text range.left ++ 32 ∷ key_text range.right) (λ ends. (range : Interval) × IsRangeForm version range × (text.now ≡ key_text range.left ++ 32 ∷ key_text range.right) × AreEnds ends range) }
+    ensures { MatchOption result (AreNoKeys version text.now) (AreKeysOf version text.now) }
 {
     let (left, right) = cut_key(text)?;
     let left = read_key(version, left)?;

@@ -4,7 +4,7 @@ ghost use Rattle.lt_trace.specs.declared.fault.TraceFault.{TraceFault};
 ghost use Rattle.lt_trace.specs.declared.line.Line.{Line};
 ghost use Rattle.lt_trace.specs.FaultRows.{FaultRows};
 ghost use Rattle.lt_trace.specs.Trace.{TraceView};
-ghost use Rattle.lt_trace.specs.Grammar.{most_bytes, Front, IsFront, IsFaultless, IsFirstFault, Spells, header_forms};
+ghost use Rattle.lt_trace.specs.Grammar.{deciding_bytes, Front, IsFront, IsFaultless, IsFirstFault, Spells, header_forms};
 
 /// Worked refusals come out so.
 pub fn fault_rows()
@@ -13,7 +13,8 @@ pub fn fault_rows()
 
 /// A front grows by one line.
 pub fn front_grows()
-    ensures { (front : Front) (line : Line) → length front.header ≡ length header_forms → IsFront front → IsFaultless front.header front.lines line → IsFront (record front { lines = front.lines ++ line ∷ [] }) }
+    ensures { (front : Front) (line : Line) → length front.header ≡ length header_forms → IsFront front →
+        IsFaultless front.header front.lines line → IsFront (record front { lines = front.lines ++ line ∷ [] }) }
 {}
 
 /// Bytes that spell a trace have no fault.
@@ -31,8 +32,9 @@ pub fn one_fault()
     ensures { (bytes : List ℕ) (one other : TraceFault) → IsFirstFault bytes one → IsFirstFault bytes other → one ≡ other }
 {}
 
-/// No trace is longer than 39,389,540 bytes, and of a longer text the first 39,389,541 bytes decide.
+/// A trace has fewer bytes than decide, and of a text with as many or more the first ones decide.
 pub fn first_bytes_decide()
-    ensures trace { (bytes : List ℕ) (trace : TraceView) → Spells bytes trace → length bytes < most_bytes }
-    ensures fault { (bytes more : List ℕ) (fault : TraceFault) → most_bytes ≤ length bytes → IsFirstFault bytes fault → IsFirstFault (bytes ++ more) fault }
+    ensures trace { (bytes : List ℕ) (trace : TraceView) → Spells bytes trace → length bytes < deciding_bytes }
+    ensures fault { (bytes more : List ℕ) (fault : TraceFault) → deciding_bytes ≤ length bytes → IsFirstFault bytes fault →
+        IsFirstFault (bytes ++ more) fault }
 {}

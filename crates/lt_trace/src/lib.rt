@@ -4,17 +4,17 @@
 mod body;
 mod body_line;
 mod cut;
-pub mod fault;
+mod fault;
 mod form;
 mod header;
 mod header_form;
 mod key_words;
 pub mod laws;
-pub mod line;
-pub mod numbers;
+mod line;
+mod numbers;
 mod reading;
 mod text_line;
-pub mod trace;
+mod trace;
 mod writing;
 
 pub use body_line::MOST_TXNS;
@@ -23,7 +23,7 @@ pub use form::MOST_NUMBER;
 pub use line::{Line, LineDeed};
 pub use numbers::number;
 pub use reading::read;
-pub use text_line::{MOST_LINE_BYTES, MOST_LINES};
+pub use text_line::{DECIDING_BYTES, MOST_LINE_BYTES, MOST_LINES};
 pub use trace::Trace;
 pub use writing::write;
 

@@ -50,7 +50,7 @@ fn read_trace(alloc: Global, bytes: &[u8]) -> Result<Trace, TraceFault>
 {
     let (header, rest) = read_header(bytes)?;
     let lines = read_body(alloc, &header, rest)?;
-    Ok(Trace::new(&header, lines))
+    Ok(Trace::new(header, lines))
 }
 
 /// Reads a trace. A refusal names the first faulty line and the first fault that it has.
@@ -61,8 +61,10 @@ pub fn read(alloc: Global, bytes: &[u8]) -> Result<Trace, TraceFault>
     ensures read { IfOk result (Spells bytes.now) }
     ensures refused { IfErr result (Refuses bytes.now) }
     // What spells a trace is read as that trace, and what has a first fault is refused for it, unless memory runs out.
-    ensures of_a_trace { (trace : TraceView) → Spells bytes.now trace → MatchResult result (λ read. read ≡ trace) (λ fault. fault ≡ TraceFault.OutOfMemory) }
-    ensures of_a_fault { (first : TraceFault) → IsFirstFault bytes.now first → MatchResult result (λ read. ⊥) (λ fault. (fault ≡ first) ⊎ (fault ≡ TraceFault.OutOfMemory)) }
+    ensures of_a_trace { (trace : TraceView) → Spells bytes.now trace →
+        MatchResult result (λ read. read ≡ trace) (λ fault. fault ≡ TraceFault.OutOfMemory) }
+    ensures of_a_fault { (first : TraceFault) → IsFirstFault bytes.now first →
+        MatchResult result (λ read. ⊥) (λ fault. (fault ≡ first) ⊎ (fault ≡ TraceFault.OutOfMemory)) }
 {
     read_trace(alloc, bytes)
 }

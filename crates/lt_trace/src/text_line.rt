@@ -11,6 +11,9 @@ pub const MOST_LINES: u32 = 65_540;
 /// The most bytes of a line, without its newline.
 pub const MOST_LINE_BYTES: usize = 600;
 
+/// As many first bytes decide what an input is: one more than the longest trace may have.
+pub const DECIDING_BYTES: usize = MOST_LINES as usize * (MOST_LINE_BYTES + 1) + 1;
+
 /// The first line, and the bytes behind its newline, if it has one.
 fn next_line(bytes: &[u8]) -> (&[u8], Option<&[u8]>)
     ensures line { first_line bytes.now ≡ record { bytes = result.0.now; ended = is_some result.1 } }
