@@ -27,7 +27,8 @@ holders_text (owner ∷ owners) = held_by (owner ∷ owners)
 abbrev pub deed_text : Deed → List ℕ
 deed_text (Ask tree range reply) = codes " ask" ++ spaced tree ++ range_text range ++ reply_text reply
 deed_text (Free tree range first count) = codes " free" ++ spaced tree ++ range_text range ++ spaced count
-deed_text (Who tree range named owners) = codes " who" ++ spaced tree ++ range_text range ++ spaced named ++ holders_text owners
+deed_text (Who tree range named owners) =
+    codes " who" ++ spaced tree ++ range_text range ++ spaced named ++ holders_text owners
 deed_text (Join tree before after) = codes " join" ++ spaced tree ++ spaced before ++ spaced after
 
 abbrev pub event_line : Receipt → List ℕ

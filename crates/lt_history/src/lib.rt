@@ -1,8 +1,8 @@
 //! How runs end, and their text.
 #![tactic(auto)]
 
-pub mod outcome;
-pub mod transcript;
+mod outcome;
+mod transcript;
 
 pub use outcome::{Ended, Outcome};
 pub use transcript::print;

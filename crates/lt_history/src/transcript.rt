@@ -2,7 +2,8 @@
 ghost use Rattle.std.specs.Prelude.{◌≡◌, ◌++◌, OnOk, IfOk};
 ghost use Rattle.std.specs.List.{flat_map};
 ghost use Rattle.lt_ranges.specs.KeyText.{spaced};
-ghost use Rattle.lt_history.specs.Text.{held_by, reply_text, holders_text, deed_text, event_line, walk_text, out_of_locks_text, outcome_text, ended_line, end_line, text};
+ghost use Rattle.lt_history.specs.Text.{held_by, reply_text, holders_text, deed_text, event_line, walk_text};
+ghost use Rattle.lt_history.specs.Text.{out_of_locks_text, outcome_text, ended_line, end_line, text};
 
 use crate::outcome::{Ended, Outcome};
 use itoa::Buffer;
