@@ -7,14 +7,14 @@ use Rattle.std.specs.Io.KnownBytes.{Appends, IsAtEnd}
 use Rattle.lt_edge.specs.Bytes.{AppendsPart, ReadsUpTo}
 use Rattle.lt_runner.proofs.HeadlineLaws.{serial_text}
 use Rattle.lt_trace.specs.Trace.{TraceView}
-use Rattle.lt_trace.specs.Grammar.{IsTrace, Spells, IsFirstFault, Refuses as IsRefused}
+use Rattle.lt_trace.specs.Grammar.{deciding_bytes, IsTrace, Spells, IsFirstFault, Refuses as IsRefused}
 use Rattle.lt_trace.specs.declared.fault.TraceFault.{TraceFault}
 use Rattle.lt_trace.specs.declared.fault.TraceFault.TheVariants as fault
 use Rattle.lt_trace.proofs.FaultLaws.{spelled_not_refused}
 use Rattle.lt_trace.proofs.LengthLaws.{first_bytes_decide, traces_are_short}
 use Rattle.lt_program.specs.Words.{IsCommand}
 use Rattle.lt_program.specs.Answers.{IsText, IsTextOfRun, IsAnswer, status_of, bytes_of}
-use Rattle.lt_program.specs.Statuses.{ReadsEnough, IsNoTrace, Works, Refuses, Breaks, IsComplete, most_bytes}
+use Rattle.lt_program.specs.Statuses.{ReadsEnough, IsNoTrace, Works, Refuses, Breaks, IsComplete}
 use Rattle.lt_program.specs.declared.answer.Answer.{Answer}
 use Rattle.lt_program.specs.declared.answer.Answer.TheVariants.{Text, Refusal}
 use Rattle.lt_program.specs.declared.words.Command.{Command}
@@ -40,20 +40,20 @@ take_short n all bytes e short =
     e ∙ take_all n all (omega (arith, ap length e, length-take n all))
 
 -- what refuses so many first bytes refuses all
-first_fault_of_all : (all bytes : List ℕ) (f : TraceFault) → bytes ≡ take most_bytes all → IsFirstFault bytes f → IsFirstFault all f
+first_fault_of_all : (all bytes : List ℕ) (f : TraceFault) → bytes ≡ take deciding_bytes all → IsFirstFault bytes f → IsFirstFault all f
 first_fault_of_all all bytes f e first =
     ⊎_elim
-    (λ short. let P : List ℕ → Type 0 = λ b. IsFirstFault b f in subst P (e ∙ take_all most_bytes all (omega (arith, short))) first)
+    (λ short. let P : List ℕ → Type 0 = λ b. IsFirstFault b f in subst P (e ∙ take_all deciding_bytes all (omega (arith, short))) first)
     (λ long.
-    let whole : bytes ++ drop most_bytes all ≡ all = ap (λ b. b ++ drop most_bytes all) e ∙ take-append-drop most_bytes all in
+    let whole : bytes ++ drop deciding_bytes all ≡ all = ap (λ b. b ++ drop deciding_bytes all) e ∙ take-append-drop deciding_bytes all in
     let P : List ℕ → Type 0 = λ b. IsFirstFault b f in
-    subst P whole (first_bytes_decide bytes (drop most_bytes all) f (omega (arith, long, ap length e, length-take most_bytes all)) first))
-    (cases_lt (length all) most_bytes)
+    subst P whole (first_bytes_decide bytes (drop deciding_bytes all) f (omega (arith, long, ap length e, length-take deciding_bytes all)) first))
+    (cases_lt (length all) deciding_bytes)
 
 no_trace : (bytes : List ℕ) (f : TraceFault) → IsFirstFault bytes f → IsNoTrace bytes f
 no_trace bytes f first = record { no_trace = λ trace spelled. spelled_not_refused bytes trace f spelled first; first = first }
 
-all_no_trace : (left : Option (List ℕ)) (bytes : List ℕ) (f : TraceFault) → ReadsUpTo most_bytes left bytes → IsFirstFault bytes f → IfSome left (λ all. IsNoTrace all f)
+all_no_trace : (left : Option (List ℕ)) (bytes : List ℕ) (f : TraceFault) → ReadsUpTo deciding_bytes left bytes → IsFirstFault bytes f → IfSome left (λ all. IsNoTrace all f)
 all_no_trace None bytes f reads first = tt
 all_no_trace (Some all) bytes f reads first = no_trace all f (first_fault_of_all all bytes f (reads all refl) first)
 
@@ -75,12 +75,12 @@ module _ (words : List (List ℕ)) (left rest : Option (List ℕ)) (status : ℕ
     trace = λ other all t said told spelled. inl s;
     no_trace = λ other all said told none.
         absurd (none is.0 (let P : List ℕ → Type 0 = λ b. Spells b is.0 in
-        subst P (take_short most_bytes all bytes (read.bytes_read all told) (traces_are_short bytes is.0 is.1)) is.1));
+        subst P (take_short deciding_bytes all bytes (read.bytes_read all told) (traces_are_short bytes is.0 is.1)) is.1));
   }
   completes (Refusal line) is (inl s) five = record {
     trace = λ other all t said told spelled.
         let short = traces_are_short all t spelled in
-        let same : bytes ≡ all = read.bytes_read all told ∙ take_all most_bytes all (omega arith) in
+        let same : bytes ≡ all = read.bytes_read all told ∙ take_all deciding_bytes all (omega arith) in
         absurd (spelled_not_refused bytes t is.0 (let P : List ℕ → Type 0 = λ b. Spells b t in subst P (sym same) spelled) is.1);
     no_trace = λ other all said told none. inl s;
   }
@@ -88,7 +88,7 @@ module _ (words : List (List ℕ)) (left rest : Option (List ℕ)) (status : ℕ
 
 module _ (words : List (List ℕ)) (left rest before after : Option (List ℕ)) (status : ℕ) (command : Command) (bytes : List ℕ)
     (form : IsCommand words command) (read : ReadsEnough left rest bytes) where
-  pub works : (a : Answer) → IsAnswer command bytes a → (length bytes < most_bytes → IsAtEnd rest) → (status ≡ status_of a) ⊎ (status ≡ 5)
+  pub works : (a : Answer) → IsAnswer command bytes a → (length bytes < deciding_bytes → IsAtEnd rest) → (status ≡ status_of a) ⊎ (status ≡ 5)
       → (status ≢ 5 → Appends before after (bytes_of a)) → status ≡ 0 → Works words left rest before after
   works (Text text) is end s all done = record {
     command = command;

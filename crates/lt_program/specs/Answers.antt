@@ -15,9 +15,9 @@ use Rattle.lt_program.specs.declared.words.Command.TheVariants.{Serial}
 abbrev pub IsText : Command → TraceView → List ℕ → Type 0
 IsText Serial trace text = text ≡ ran_text (serial trace 0)
 
--- It is the text of a run: of one legal history in which each transaction of the trace is played to its end and no other
--- has an event, where no two transactions ever hold overlapping ranges, each refusal names exactly the other owners that
--- overlap, and a join takes no held key away and gives none that another holds.
+-- It is the text of a run: of one legal history in which each transaction of the trace is played to its end and no
+-- other has an event, where no two transactions ever hold overlapping ranges, each refusal names exactly the other
+-- owners that overlap, and a join takes no held key away and gives none that another holds.
 abbrev pub IsTextOfRun : Command → TraceView → List ℕ → Type 0
 IsTextOfRun Serial trace text = IsRunText false (setting_of trace 1 0) trace.lines text
 

@@ -5,18 +5,13 @@ use Rattle.std.specs.declared.option.Option.{Option}
 use Rattle.std.specs.Io.KnownBytes.{Appends, Consumes, IsAtEnd}
 use Rattle.lt_edge.specs.Bytes.{AppendsPart, ReadsUpTo}
 use Rattle.lt_trace.specs.Trace.{TraceView}
-use Rattle.lt_trace.specs.Grammar.{Spells, IsFirstFault}
+use Rattle.lt_trace.specs.Grammar.{deciding_bytes, Spells, IsFirstFault}
 use Rattle.lt_trace.specs.declared.fault.TraceFault.{TraceFault}
 use Rattle.lt_program.specs.Words.{IsCommand}
 use Rattle.lt_program.specs.Refusal.{fault_text}
 use Rattle.lt_program.specs.Answers.{IsText, IsTextOfRun, IsAnswer, bytes_of}
 use Rattle.lt_program.specs.declared.answer.Answer.{Answer}
 use Rattle.lt_program.specs.declared.words.Command.{Command}
-
--- As many bytes are read as tell every trace, and every first fault: no trace has more than 65,540 lines of 600 bytes
--- with a newline each.
-abbrev pub most_bytes : ℕ
-most_bytes = 39389541
 
 -- All that the source had was read.
 pub record ReadsAll (left rest : Option (List ℕ)) (bytes : List ℕ) : Type 0 where
@@ -25,7 +20,7 @@ pub record ReadsAll (left rest : Option (List ℕ)) (bytes : List ℕ) : Type 0 
 
 -- All that it had was read, or as many of its first bytes as decide.
 pub record ReadsEnough (left rest : Option (List ℕ)) (bytes : List ℕ) : Type 0 where
-  pub bytes_read : ReadsUpTo most_bytes left bytes
+  pub bytes_read : ReadsUpTo deciding_bytes left bytes
   pub read : Consumes left rest bytes
 
 -- The command did its work: the bytes read spell a trace, and its text was written, which is that of a run.

@@ -9,7 +9,7 @@ use lt_history::print;
 use lt_runner::run_serial;
 use lt_seq::SeqYard;
 use lt_trace::{Trace, TraceFault, read};
-use std::alloc::{AllocError as OutOfMemory, Global};
+use std::alloc::{AllocError, Global};
 
 /// What is to be written.
 #[derive(Debug, Drop)]
@@ -21,22 +21,18 @@ pub(crate) enum Answer {
 }
 
 /// The answer of a command to the bytes that were read.
-pub(crate) fn answer_to(
-    alloc: Global,
-    command: Command,
-    bytes: &[u8],
-) -> Result<Answer, OutOfMemory>
+pub(crate) fn answer_to(alloc: Global, command: Command, bytes: &[u8]) -> Result<Answer, AllocError>
     ensures { IfOk result (IsAnswer command bytes.now) }
 {
     match read(alloc, bytes) {
         Ok(trace) => Ok(Answer::Text(text_of(alloc, command, &trace)?)),
-        Err(TraceFault::OutOfMemory) => Err(OutOfMemory),
+        Err(TraceFault::OutOfMemory) => Err(AllocError),
         Err(fault) => Ok(Answer::Refusal(refusal_line(alloc, &fault)?)),
     }
 }
 
 /// The text of the command's work on the trace.
-fn text_of(alloc: Global, command: Command, trace: &Trace) -> Result<Vec<u8>, OutOfMemory>
+fn text_of(alloc: Global, command: Command, trace: &Trace) -> Result<Vec<u8>, AllocError>
     ensures { IfOk result (λ text. IsText command trace.now text.items) }
 {
     match command {
@@ -45,7 +41,7 @@ fn text_of(alloc: Global, command: Command, trace: &Trace) -> Result<Vec<u8>, Ou
 }
 
 /// The transcript of the plain scheduler.
-fn serial_text(alloc: Global, trace: &Trace) -> Result<Vec<u8>, OutOfMemory>
+fn serial_text(alloc: Global, trace: &Trace) -> Result<Vec<u8>, AllocError>
     ensures { IfOk result (λ text. text.items ≡ ran_text (serial trace.now 0)) }
 {
     let run = run_serial::<SeqYard>(alloc, trace, 0)?;

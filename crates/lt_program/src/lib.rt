@@ -3,11 +3,12 @@
 
 mod answer;
 mod refusal;
-pub mod running;
+mod running;
 pub mod status;
-pub mod words;
+mod words;
 
 pub use running::run;
+pub use words::{Command, command_of};
 
 #[cfg(test)]
 mod tests;

@@ -3,10 +3,10 @@ ghost use Rattle.std.specs.Prelude.{◌≡◌, ◌≢◌, IfOk};
 ghost use Rattle.lt_program.specs.Refusal.{refusal_text, fault_text};
 
 use lt_trace::TraceFault;
-use std::alloc::{AllocError as OutOfMemory, Global};
+use std::alloc::{AllocError, Global};
 
 /// The line of a fault: the number of the faulty line, and the fault's code and name.
-pub(crate) fn refusal_line(alloc: Global, fault: &TraceFault) -> Result<Vec<u8>, OutOfMemory>
+pub(crate) fn refusal_line(alloc: Global, fault: &TraceFault) -> Result<Vec<u8>, AllocError>
     requires { fault.now ≢ TraceFault.OutOfMemory }
     ensures { IfOk result (λ out. out.items ≡ fault_text fault.now) }
 {

@@ -12,11 +12,8 @@ use crate::answer::{Answer, answer_to};
 use crate::status;
 use crate::words::command_of;
 use lt_edge::{ReadFault, Sink, Source, put_all, read_all};
+use lt_trace::DECIDING_BYTES;
 use std::alloc::Global;
-
-/// The most bytes that are read: one more than 65,540 lines of 600 bytes and a newline each. No trace is longer, and
-/// of more bytes these decide which fault is the first.
-const READ_LIMIT: usize = 39_389_541;
 
 /// Does what the words ask for: reads the source to its end, writes the text or a refusal to the sink, and gives the
 /// status with which the program ends (see [`status`]).
@@ -26,11 +23,14 @@ const READ_LIMIT: usize = 39_389_541;
 pub fn run<S: Source, K: Sink>(alloc: Global, words: &[String], source: &mut S, sink: &mut K) -> u8
     ensures usage { (result ≡ 2) ↔ IsNoCommand (map string_bytes words.now) }
     ensures command { result ≢ 2 → (command : Command) × IsCommand (map string_bytes words.now) command }
-    ensures done { result ≡ 0 → Works (map string_bytes words.now) (S.left source.old) (S.left source.new) (K.taken sink.old) (K.taken sink.new) }
-    ensures refused { result ≡ 3 → Refuses (map string_bytes words.now) (S.left source.old) (S.left source.new) (K.taken sink.old) (K.taken sink.new) }
+    ensures done { result ≡ 0 → Works (map string_bytes words.now)
+        (S.left source.old) (S.left source.new) (K.taken sink.old) (K.taken sink.new) }
+    ensures refused { result ≡ 3 → Refuses (map string_bytes words.now)
+        (S.left source.old) (S.left source.new) (K.taken sink.old) (K.taken sink.new) }
     ensures unread { result ≡ 4 → Rose (S.faults source.old) (S.faults source.new) }
     ensures unwritten { result ≡ 5 → Rose (K.faults sink.old) (K.faults sink.new) }
-    ensures part { result ≡ 5 → Breaks (map string_bytes words.now) (S.left source.old) (S.left source.new) (K.taken sink.old) (K.taken sink.new) }
+    ensures part { result ≡ 5 → Breaks (map string_bytes words.now)
+        (S.left source.old) (S.left source.new) (K.taken sink.old) (K.taken sink.new) }
 
     // Nothing else is a status, and no fault is passed over.
     ensures only { Contains (0 ∷ 2 ∷ 3 ∷ 4 ∷ 5 ∷ 6 ∷ []) result }
@@ -41,13 +41,13 @@ pub fn run<S: Source, K: Sink>(alloc: Global, words: &[String], source: &mut S, 
     ensures unasked { result ≡ 2 → source.new ≡ source.old }
     ensures silent { (result ≡ 2) ⊎ (result ≡ 4) ⊎ (result ≡ 6) → sink.new ≡ sink.old }
 
-    ensures complete { ¬ Rose (S.faults source.old) (S.faults source.new) → ¬ Rose (K.faults sink.old) (K.faults sink.new)
-        → IsComplete (map string_bytes words.now) (S.left source.old) result }
+    ensures complete { ¬ Rose (S.faults source.old) (S.faults source.new) → ¬ Rose (K.faults sink.old) (K.faults sink.new) →
+        IsComplete (map string_bytes words.now) (S.left source.old) result }
 {
     let Some(command) = command_of(words) else {
         return status::USAGE;
     };
-    let bytes = match read_all(alloc, source, READ_LIMIT) {
+    let bytes = match read_all(alloc, source, DECIDING_BYTES) {
         Ok(bytes) => bytes,
         Err(ReadFault::Failed) => return status::UNREAD,
         Err(ReadFault::OutOfMemory) => return status::NO_MEMORY,

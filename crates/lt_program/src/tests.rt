@@ -13,8 +13,12 @@ const SECOND_HEADER: &str = "rangelock 2\ntrees 1\nlimit 64\nbuffer 0\n";
 /// A trace whose second transaction is held, and its transcript.
 const HELD_LINES: &str = "1 try 0 \"a\" \"c\"\n2 try 0 \"c\" \"e\"\n";
 
-const HELD_TEXT: &str =
-    "0 1 ask 0 \"a\" \"c\" granted\n1 2 ask 0 \"c\" \"e\" held by 1\n2 1 free 0 \"a\" \"c\" 1\ntxn 1 done\ntxn 2 done\nend 3 0\n";
+const HELD_TEXT: &str = "0 1 ask 0 \"a\" \"c\" granted\n\
+        1 2 ask 0 \"c\" \"e\" held by 1\n\
+        2 1 free 0 \"a\" \"c\" 1\n\
+        txn 1 done\n\
+        txn 2 done\n\
+        end 3 0\n";
 
 fn owned(alloc: Global, words: &[&str]) -> Result<Vec<String>, AllocError> {
     let mut owned = Vec::new(alloc);
@@ -64,7 +68,12 @@ const PLAYED: [(&str, &str, &str); 8] = [
     (
         "own ranges are joined",
         "1 try 0 \"a\" \"c\"\n1 try 0 \"b\" \"d\"\n1 end\n",
-        "0 1 ask 0 \"a\" \"c\" granted\n1 1 ask 0 \"b\" \"d\" granted\n2 1 free 0 \"a\" \"c\" 1\n3 1 free 0 \"b\" \"d\" 0\ntxn 1 done\nend 4 0\n",
+        "0 1 ask 0 \"a\" \"c\" granted\n\
+            1 1 ask 0 \"b\" \"d\" granted\n\
+            2 1 free 0 \"a\" \"c\" 1\n\
+            3 1 free 0 \"b\" \"d\" 0\n\
+            txn 1 done\n\
+            end 4 0\n",
     ),
     (
         "infinities hold every key",
@@ -79,7 +88,15 @@ const PLAYED: [(&str, &str, &str); 8] = [
     (
         "two owners are named",
         "1 try 0 \"a\" \"a\"\n2 try 0 \"c\" \"c\"\n3 try 0 - +\n",
-        "0 1 ask 0 \"a\" \"a\" granted\n1 2 ask 0 \"c\" \"c\" granted\n2 3 ask 0 - + held by 1 2\n3 1 free 0 \"a\" \"a\" 1\n4 2 free 0 \"c\" \"c\" 1\ntxn 1 done\ntxn 2 done\ntxn 3 done\nend 5 0\n",
+        "0 1 ask 0 \"a\" \"a\" granted\n\
+            1 2 ask 0 \"c\" \"c\" granted\n\
+            2 3 ask 0 - + held by 1 2\n\
+            3 1 free 0 \"a\" \"a\" 1\n\
+            4 2 free 0 \"c\" \"c\" 1\n\
+            txn 1 done\n\
+            txn 2 done\n\
+            txn 3 done\n\
+            end 5 0\n",
     ),
     ("an end alone", "7 end\n", "txn 7 done\nend 0 0\n"),
 ];
@@ -107,19 +124,42 @@ const WITH_HEADERS: [(&str, &str, &str, &str); 4] = [
         "trees are given back in ascending order",
         "rangelock 1\ntrees 2\nlimit 64\nbuffer 0\n",
         "1 try 1 \"a\" \"a\"\n1 try 0 \"b\" \"b\"\n2 try 0 \"a\" \"a\"\n1 end\n",
-        "0 1 ask 1 \"a\" \"a\" granted\n1 1 ask 0 \"b\" \"b\" granted\n2 2 ask 0 \"a\" \"a\" granted\n3 1 free 0 \"b\" \"b\" 1\n4 1 free 1 \"a\" \"a\" 1\n5 2 free 0 \"a\" \"a\" 1\ntxn 1 done\ntxn 2 done\nend 6 0\n",
+        "0 1 ask 1 \"a\" \"a\" granted\n\
+            1 1 ask 0 \"b\" \"b\" granted\n\
+            2 2 ask 0 \"a\" \"a\" granted\n\
+            3 1 free 0 \"b\" \"b\" 1\n\
+            4 1 free 1 \"a\" \"a\" 1\n\
+            5 2 free 0 \"a\" \"a\" 1\n\
+            txn 1 done\n\
+            txn 2 done\n\
+            end 6 0\n",
     ),
     (
         "the limit counts the rows of all trees",
         "rangelock 1\ntrees 2\nlimit 2\nbuffer 0\n",
         "1 try 1 \"a\" \"a\"\n2 try 0 \"a\" \"a\"\n3 try 1 \"c\" \"c\"\n",
-        "0 1 ask 1 \"a\" \"a\" granted\n1 2 ask 0 \"a\" \"a\" granted\n2 1 free 1 \"a\" \"a\" 1\n3 2 free 0 \"a\" \"a\" 1\ntxn 1 done\ntxn 2 done\ntxn 3 outoflocks 2 2\nend 4 0\n",
+        "0 1 ask 1 \"a\" \"a\" granted\n\
+            1 2 ask 0 \"a\" \"a\" granted\n\
+            2 1 free 1 \"a\" \"a\" 1\n\
+            3 2 free 0 \"a\" \"a\" 1\n\
+            txn 1 done\n\
+            txn 2 done\n\
+            txn 3 outoflocks 2 2\n\
+            end 4 0\n",
     ),
     (
         "prefix endpoints in the second version",
         SECOND_HEADER,
         "1 try 0 \"ab\" \"ab\"*\n2 try 0 \"abz\" \"abz\"\n3 try 0 \"ac\" \"ac\"\n",
-        "0 1 ask 0 \"ab\" \"ab\"* granted\n1 2 ask 0 \"abz\" \"abz\" held by 1\n2 3 ask 0 \"ac\" \"ac\" granted\n3 1 free 0 \"ab\" \"ab\"* 1\n4 3 free 0 \"ac\" \"ac\" 1\ntxn 1 done\ntxn 2 done\ntxn 3 done\nend 5 0\n",
+        "0 1 ask 0 \"ab\" \"ab\"* granted\n\
+            1 2 ask 0 \"abz\" \"abz\" held by 1\n\
+            2 3 ask 0 \"ac\" \"ac\" granted\n\
+            3 1 free 0 \"ab\" \"ab\"* 1\n\
+            4 3 free 0 \"ac\" \"ac\" 1\n\
+            txn 1 done\n\
+            txn 2 done\n\
+            txn 3 done\n\
+            end 5 0\n",
     ),
 ];
 

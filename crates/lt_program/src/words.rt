@@ -3,7 +3,7 @@ ghost use Rattle.std.specs.Prelude.{◌∷◌, [], IfSome, IfNone, map, string_b
 ghost use Rattle.lt_program.specs.Words.{IsCommand, IsNoCommand};
 
 /// What the words ask for.
-#[derive(Clone, Copy, Debug, PartialEq, Eq)]
+#[derive(Clone, Copy, Debug, PartialEq, Eq, Hash)]
 pub enum Command {
     /// `serial`: play the trace with the plain scheduler.
     Serial,
