@@ -1,5 +1,5 @@
-// What no clause says: that the calls succeed where memory is ample, how much each put is lent, and what std's
-// readers and writers do behind the two adapters.
+//! What no clause says: that the calls succeed where memory is ample, how much each put is lent, and what std's
+//! readers and writers do behind the two adapters.
 use crate::{
     Failed, MemSink, MemSource, ReadFault, ReadSource, Sink, Source, WriteSink, put_all, read_all,
 };

@@ -1,4 +1,4 @@
-// What the program writes on worked traces, and where an end fails: the texts here come from outside.
+//! What the program writes on worked traces, and where an end fails: the texts here come from outside.
 use crate::run;
 use lt_edge::{MemSink, MemSource};
 use std::alloc::{AllocError, Global};
