@@ -117,6 +117,11 @@ wish_for txn Abort = None
 wish_for txn (Escalate tree) = None
 wish_for txn Big = None
 
+-- what a turn with these lines left waits for
+abbrev pub next_wish : ℕ → List Line → Option Wish
+next_wish txn [] = None
+next_wish txn (line ∷ lines) = wish_for txn line.deed
+
 abbrev pub wish_in : ℕ → List Wish → Option Wish
 wish_in txn wishes = find (λ w. w.txn == txn) wishes
 

@@ -23,8 +23,9 @@ use Rattle.lt_history.specs.Text.{text}
 use Rattle.lt_runner.specs.declared.release.Release.{Release}
 use Rattle.lt_runner.specs.TurnView.{Turn}
 use Rattle.lt_runner.specs.Turn.{Move, asks, waits, stops, escalates, grows, ends, frees, receipts_in, turn_after, reply_in}
+use Rattle.lt_seq.specs.Passes.{numbers_from}
 use Rattle.lt_runner.specs.Attempt.{bar_of}
-use Rattle.lt_runner.specs.Plays.{is_held, wish_for, end_of, opening_turn}
+use Rattle.lt_runner.specs.Plays.{is_held, next_wish, end_of, opening_turn}
 
 -- all that the scheduler keeps
 pub record Game : Type 0 where
@@ -43,11 +44,6 @@ turn_of setting txn (turn ∷ turns) = if turn.txn == txn then turn else turn_of
 
 abbrev pub with_turn : Turn → List Turn → List Turn
 with_turn new turns = map (λ turn. if turn.txn == new.txn then new else turn) turns
-
--- a turn's wish, where it waits
-abbrev pub next_wish : ℕ → List Line → Option Wish
-next_wish txn [] = None
-next_wish txn (line ∷ lines) = wish_for txn line.deed
 
 abbrev pub is_waiting : Turn → Bool
 is_waiting turn = turn.waits
@@ -68,12 +64,27 @@ ask_move setting turns turn locks events joins ask =
     waits joins ask wishes (searched setting turn.txn wishes wishes (events ++ ask.event ∷ []) [] (wishes_of (named_by (reply_in ask.event.deed)) wishes)))
     else asks joins ask
 
--- an attempt asks where there is room, and is out of locks otherwise: no table joins its trees yet
+-- the joins of these trees, one behind another
+abbrev pub joins_of : Setting → ℕ → List ℕ → List Event → List Receipt
+joins_of setting txn [] events = []
+joins_of setting txn (tree ∷ trees) events =
+    let r = receipt_after setting events 0 txn (Join tree 0 0) in
+    r ∷ joins_of setting txn trees (events ++ r.event ∷ [])
+
+-- behind the joins of all trees it asks where there is room now, and is out of locks otherwise
+abbrev pub behind_joins : Setting → List Turn → Turn → Bool → Deed → List Event → List Receipt → Move
+behind_joins setting turns turn locks deed events joins =
+    if nat_lt (used (after setting events)) (bar_of setting turn)
+    then ask_move setting turns turn locks events joins (receipt_after setting events 0 turn.txn deed)
+    else stops joins (place_after setting events) (used (after setting events))
+
+-- An attempt asks where there is room, and otherwise joins first, in all trees.
 abbrev pub attempt : Setting → List Turn → Turn → Bool → Deed → List Event → Move
 attempt setting turns turn locks deed events =
     if nat_lt (used (after setting events)) (bar_of setting turn)
     then ask_move setting turns turn locks events [] (receipt_after setting events 0 turn.txn deed)
-    else stops [] (place_after setting events) (used (after setting events))
+    else (let joins = joins_of setting turn.txn (numbers_from 0 setting.plan.trees) events in
+    behind_joins setting turns turn locks deed (events ++ events_of joins) joins)
 
 abbrev pub line_move : Setting → Game → Turn → LineDeed → Move
 line_move setting game turn (Try tree range) = attempt setting game.turns turn false (Ask tree range Granted) game.events

@@ -23,3 +23,10 @@ pub record Turn : Type 0 where
   pub releases : List Release
   -- whether it said that it is a big one
   pub big : Bool
+
+-- A turn with what is known of its last call: whether it was refused, which may have left joins, and whether the transaction has
+-- been registered as one that waits at its next line.
+pub record Seat : Type 0 where
+  pub turn : Turn
+  pub busy : Bool
+  pub listed : Bool
