@@ -1,5 +1,6 @@
 pub mod FreeLaws
 pub mod TurnsLaws
+pub mod StepLaws
 pub mod PlaceLaws
 pub mod QuietLaws
 pub mod LineLaws

@@ -3,6 +3,7 @@ pub mod Turn
 pub mod Attempt
 pub mod Plays
 pub mod Serial
+pub mod Steps
 pub mod Rows
 pub mod Run
 pub mod Played
