@@ -9,6 +9,13 @@ pub mod OpeningLaws
 pub mod TraceLaws
 pub mod ClosingLaws
 pub mod PlayLaws
+pub mod SearchLaws
+pub mod ListedLaws
+pub mod ComeLaws
+pub mod CallLaws
+pub mod SearchedLaws
+pub mod WishLaws
+pub mod AttemptLaws
 pub mod PlayedLaws
 pub mod FollowLaws
 pub mod GrowthLaws

@@ -24,9 +24,10 @@ use Rattle.lt_history.specs.declared.outcome.Outcome.TheVariants.{Done, Aborted,
 use Rattle.lt_runner.specs.declared.release.Release.{Release}
 use Rattle.lt_runner.specs.TurnView.{Turn, Recorded}
 use Rattle.lt_runner.specs.Turn.{Move, leaves, asks, waits, stops, escalates, grows, ends, frees, receipts_in, turn_after, releases_by, releases_in, releases_from, nothing_recorded, past, granted_to, ending, answered_by, walked, locked_by, asked_at, ended_at, reply_in, rest_of, rest_of_release}
-use Rattle.lt_runner.specs.Plays.{end_of, is_lock, opening_turn}
+use Rattle.lt_runner.specs.Plays.{end_of, opening_turn}
 use Rattle.lt_runner.specs.Serial.{Game, turn_of, with_turn, is_waiting, is_ready, line_move, does, gives_back, settles, plays_line, plays_next, plays_on, retried, swept, swept_if_released, settled, added, takes_line, ends_first, ends_one, opening_game, played}
-use Rattle.lt_runner.specs.Steps.{IsFitDeed, IsFitLine, IsFitRelease, AreRanges, IsAtLock, IsSteady, IsInOrder, IsTurnOf, IsAtLine, IsOwing, IsTaking, IsPassing, IsEnding, KeepsMoves, takes, KeepsSteps, IsFit}
+use Rattle.lt_runner.specs.Played.{IsAtLock}
+use Rattle.lt_runner.specs.Steps.{IsFitDeed, IsFitLine, IsFitRelease, AreRanges, IsSteady, IsInOrder, IsTurnOf, IsAtLine, IsOwing, IsTaking, IsPassing, IsEnding, KeepsMoves, takes, KeepsSteps, IsFit}
 use Rattle.lt_runner.proofs.TurnsLaws.{on_true, on_false}
 
 -- Turns by their numbers.

@@ -3,9 +3,9 @@ pub mod Turn
 pub mod Attempt
 pub mod Plays
 pub mod Serial
-pub mod Steps
 pub mod Rows
 pub mod Run
 pub mod Played
+pub mod Steps
 pub mod AtOnce
 pub mod Transcript

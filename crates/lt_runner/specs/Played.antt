@@ -1,15 +1,19 @@
 -- What a transaction has done so far, while it is still played. For proofs and the contracts of a turn.
-use Rattle.std.specs.Prelude.{◌≡◌, ◌≢◌, ℕ, ◌≤◌, List, [], ◌∷◌, ◌++◌, Contains, Bool, true, false, IsTrue, if◌then◌else◌}
+use Rattle.std.specs.Prelude.{◌≡◌, ◌≢◌, ℕ, ◌<◌, ◌≤◌, List, [], ◌∷◌, ◌++◌, Contains, map, is_some, Bool, true, false, IsTrue, if◌then◌else◌}
 use Rattle.std.specs.List.{AllByRecursion, flat_map}
+use Rattle.lt_ranges.specs.Numbers.{is_in}
 use Rattle.lt_seq.specs.declared.event.Event.{Event}
 use Rattle.lt_seq.specs.declared.event.Receipt.{Receipt}
 use Rattle.lt_seq.specs.Table.{Setting}
+use Rattle.lt_seq.specs.History.{IsLegal}
 use Rattle.lt_seq.specs.Yard.{place_after}
+use Rattle.lt_seq.specs.Questions.{receipts_of}
 use Rattle.lt_trace.specs.declared.line.Line.{Line}
+use Rattle.lt_trace.specs.Grammar.{txns_of}
 use Rattle.lt_requests.specs.declared.wish.Wish.{Wish}
 use Rattle.lt_runner.specs.TurnView.{Turn, Seat}
 use Rattle.lt_runner.specs.Turn.{Move, leaves, asks, waits, stops, escalates, grows, ends, frees, receipts_in, turn_after}
-use Rattle.lt_runner.specs.Plays.{Past, Stage, stage_after, stage_after_all, is_lock, IsMove, ArePlayed}
+use Rattle.lt_runner.specs.Plays.{Past, Stage, stage_after, stage_after_all, is_lock, IsMove, ArePlayed, opening_stage, lines_for}
 use Rattle.lt_runner.specs.Run.{moves_before, IsListedRightly}
 
 -- each of these came no later than the history's next event
@@ -104,3 +108,25 @@ pub record MovesBy (crew : Bool) (setting : Setting) (old_history new_history : 
   pub late : IsLate (place_after setting old_history) move
   pub past : (past : Past) → IsPastAt crew setting old_history old past → IsPastAt crew setting new_history new (stage_after (record { turn = old.turn; past = past }) move).past
   pub made_by : made ≡ receipts_in move
+
+-- The searches of others were all before the place, and these are among all.
+pub record Fits (searches found : List Search) (from txn : ℕ) : Type 0 where
+  pub before : AllByRecursion (λ s. s.txn ≢ txn → s.place < from) searches
+  pub among : (s : Search) → Contains found s → Contains searches s
+
+-- what the transaction has come to, of the lines of a trace
+abbrev pub Stands : Bool → Setting → List Search → List Line → List Event → Seat → Type 0
+Stands crew setting searches lines history seat =
+    HasCome crew setting searches history (opening_stage setting seat.turn.txn (lines_for seat.turn.txn lines)) seat
+    (receipts_of setting.plan.first seat.turn.txn history)
+
+-- it has ended, and has given back all
+abbrev pub IsOver : Seat → Type 0
+IsOver seat = (is_some seat.turn.outcome ≡ true) × (seat.turn.releases ≡ [])
+
+-- all transactions of a trace, half played, in one legal history
+pub record AllStand (crew : Bool) (setting : Setting) (searches : List Search) (lines : List Line) (history : List Event) (seats : List Seat) : Type 0 where
+  pub legal : IsLegal setting history
+  pub numbers : map (λ seat. seat.turn.txn) seats ≡ txns_of lines
+  pub stand : AllByRecursion (Stands crew setting searches lines history) seats
+  pub own : AllByRecursion (λ e. IsTrue (is_in e.txn (txns_of lines))) history

@@ -1,5 +1,5 @@
 -- The steps that the plain scheduler's run is made of, and what holds of its turns between them. For proofs.
-use Rattle.std.specs.Prelude.{◌≡◌, ℕ, ◌<◌, List, [], ◌∷◌, ◌++◌, map, length, is_some, Bool, true, false, IsTrue}
+use Rattle.std.specs.Prelude.{◌≡◌, ℕ, ◌<◌, List, [], ◌∷◌, ◌++◌, map, length, is_some, Bool, true, false}
 use Rattle.std.specs.List.{AllByRecursion}
 use Rattle.std.specs.List.Sorted.{IsStrictlySortedBy}
 use Rattle.std.specs.Ordering.{nat_cmp}
@@ -14,7 +14,8 @@ use Rattle.lt_trace.specs.declared.line.LineDeed.TheVariants.{Try, Lock, End, Ab
 use Rattle.lt_runner.specs.declared.release.Release.{Release}
 use Rattle.lt_runner.specs.TurnView.{Turn, Recorded}
 use Rattle.lt_runner.specs.Turn.{Move, frees}
-use Rattle.lt_runner.specs.Plays.{end_of, is_lock}
+use Rattle.lt_runner.specs.Plays.{end_of}
+use Rattle.lt_runner.specs.Played.{IsAtLock}
 use Rattle.lt_runner.specs.Serial.{Game, turn_of, with_turn, is_ready, line_move, does}
 
 -- the trees of the deed are there, and its ranges are ranges
@@ -36,11 +37,6 @@ IsFitRelease setting r = (r.tree < setting.plan.trees) × IsInterval r.range
 
 abbrev pub AreRanges : Recorded → Type 0
 AreRanges r = AllByRecursion IsInterval r.ranges
-
--- the next line is a lock line
-abbrev pub IsAtLock : List Line → Type 0
-IsAtLock [] = ⊥
-IsAtLock (line ∷ lines) = IsTrue (is_lock line.deed)
 
 -- A turn between two steps. One that has ended has no line and does not wait, and no other owes a free.
 pub record IsSteady (setting : Setting) (turn : Turn) : Type 0 where
