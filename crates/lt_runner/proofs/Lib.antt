@@ -1,5 +1,8 @@
 pub mod FreeLaws
 pub mod TurnsLaws
+pub mod SteadyLaws
+pub mod MoveLaws
+pub mod IdleLaws
 pub mod StepLaws
 pub mod PlaceLaws
 pub mod QuietLaws
@@ -16,8 +19,8 @@ pub mod CallLaws
 pub mod SearchedLaws
 pub mod WishLaws
 pub mod AttemptLaws
-pub mod PlayedLaws
 pub mod FollowLaws
+pub mod PlayedLaws
 pub mod GrowthLaws
 pub mod RunLaws
 pub mod WholeLaws

@@ -16,7 +16,7 @@ use Rattle.lt_runner.specs.Plays.{wish_for, next_wish, wish_in, AreWishes}
 use Rattle.lt_runner.specs.Serial.{turn_of, with_turn, is_waiting, wishes_in}
 use Rattle.lt_runner.specs.Steps.{IsFitDeed, IsFitLine, IsSteady}
 use Rattle.lt_runner.proofs.TurnsLaws.{on_true, on_false}
-use Rattle.lt_runner.proofs.StepLaws.{turn_of_with, numbers_with}
+use Rattle.lt_runner.proofs.SteadyLaws.{turn_of_with, turn_of_other, numbers_with}
 use Rattle.lt_runner.proofs.SearchedLaws.{IsFitWish}
 
 abbrev numbers : List Turn → List ℕ
@@ -27,20 +27,6 @@ abbrev pub wish_of : Turn → Option Wish
 wish_of turn = if is_waiting turn then next_wish turn.txn turn.lines else None
 
 -- Turns by their numbers.
-
-pub turn_of_other : (setting : Setting) (other : ℕ) (new : Turn) (turns : List Turn) → other ≢ new.txn → turn_of setting other (with_turn new turns) ≡ turn_of setting other turns
-turn_of_other setting other new [] differs = refl
-turn_of_other setting other new (t ∷ ts) differs = by_test (t.txn == new.txn) refl (turn_of_other setting other new ts differs)
-  where
-    differ : (a b : ℕ) (c : Bool) → (a ≡ b → ⊥) → (a == b) ≡ c → (a == b) ≡ false
-    differ a b true d e = absurd (d (let same : a ≡ b = grind (arith, nat_tests) in same))
-    differ a b false d e = e
-    by_test : (b : Bool) → (t.txn == new.txn) ≡ b → turn_of setting other (with_turn new ts) ≡ turn_of setting other ts →
-        (if (if b then new else t).txn == other then (if b then new else t) else turn_of setting other (with_turn new ts)) ≡ (if t.txn == other then t else turn_of setting other ts)
-    by_test true e rest =
-        on_false (new.txn == other) new _ (differ new.txn other _ (λ same. differs (sym same)) refl) ∙ rest
-        ∙ sym (on_false (t.txn == other) t _ (differ t.txn other _ (λ same. differs (let own : t.txn ≡ new.txn = grind (arith, nat_tests) in sym same ∙ own)) refl))
-    by_test false e rest = ap (λ (u : Turn). if t.txn == other then t else u) rest
 
 abbrev AllAbove : ℕ → List ℕ → Type 0
 AllAbove n ns = AllByRecursion (λ m. nat_cmp n m ≡ Less) ns

@@ -85,10 +85,11 @@ pub record IsPassing (setting : Setting) (txns : List ℕ) (game : Game) (turn :
   pub ended : is_some turn.outcome ≡ true
   pub fits : IsFitLine setting turn.txn line
 
--- the trace is over, and it is the least that is ready
+-- the trace is over, and it is the least that is ready: it has played all its lines
 pub record IsEnding (setting : Setting) (txns : List ℕ) (game : Game) (turn : Turn) : Type 0 where
   pub of_game : IsTurnOf setting txns game turn
   pub ready : is_ready turn ≡ true
+  pub empty : turn.lines ≡ []
 
 -- A property of games that each move keeps, and each free of a release.
 pub record KeepsMoves (setting : Setting) (txns : List ℕ) (P : Game → Type 0) : Type 0 where
