@@ -24,13 +24,13 @@ use Rattle.lt_requests.specs.declared.cycle.Edge.{Edge}
 use Rattle.lt_history.specs.declared.outcome.Outcome.{Outcome}
 use Rattle.lt_runner.specs.declared.release.Release.{Release}
 use Rattle.lt_runner.specs.TurnView.{Turn}
-use Rattle.lt_runner.specs.Turn.{Move, leaves, asks, waits, stops, escalates, grows, ends, frees, turn_after, answered_by, walked, locked_by, asked_at, ended_at, reply_in, rest_of}
+use Rattle.lt_runner.specs.Turn.{Move, leaves, asks, waits, stops, escalates, grows, ends, frees, turn_after, answered_by, walked, locked_by, asked_at, ended_at, reply_in, rest_of, rest_of_release}
 use Rattle.lt_runner.specs.Attempt.{bar_of}
 use Rattle.lt_runner.specs.Plays.{is_held, is_ask}
-use Rattle.lt_runner.specs.Serial.{Game, turn_of, with_turn, is_waiting, is_ready, ask_move, behind_joins, joins_of, attempt, line_move, does, settles, plays_line, plays_next, plays_on, retried, swept, swept_if_released, settled, added}
+use Rattle.lt_runner.specs.Serial.{Game, turn_of, with_turn, is_waiting, is_ready, ask_move, behind_joins, joins_of, attempt, line_move, does, gives_back, settles, plays_line, plays_next, plays_on, retried, swept, swept_if_released, settled, added}
 use Rattle.lt_runner.specs.Steps.{IsFitLine, IsSteady, IsInOrder, IsTurnOf, IsAtLine, IsOwing, KeepsMoves, takes}
 use Rattle.lt_runner.proofs.TurnsLaws.{on_true, on_false}
-use Rattle.lt_runner.proofs.SteadyLaws.{numbers, turn_of_txn, turn_of_with, turn_of_other, turn_has, after_txn, ready_goes, waits_goes, never, steady_taking}
+use Rattle.lt_runner.proofs.SteadyLaws.{numbers, turn_of_txn, turn_of_with, turn_of_other, turn_has, after_txn, ready_goes, waits_goes, never, steady_taking, steady_freed}
 use Rattle.lt_runner.proofs.MoveLaws.{Holds, KeepsOf, AnyOne, keeps_of, AreOf, are_of, the_turn, turn_after_does, in_order_with, holds_plays, holds_settles, holds_line, holds_next, holds_on, holds_retried, holds_swept_if}
 
 -- one that is ready has these lines left
@@ -214,10 +214,73 @@ rests_on setting txns txn (line ∷ lines) game number order rests =
         (subst (λ (ls : List Line). RestsAt setting txn ls (plays_next setting txn game)) (ap rest_of (rests ready)) (rests_line setting txns txn turn.lines game number order goes refl))
     by_test false waiting on = λ ready. never (is_ready turn) waiting ready
 
+-- One that has ended owes nothing.
+
+abbrev pub Owes : Turn → Type 0
+Owes turn = is_some turn.outcome ≡ true → turn.releases ≡ []
+
+owes_back : (setting : Setting) (txns : List ℕ) (txn : ℕ) (rs : List Release) (game : Game) → is_in txn txns ≡ true → IsInOrder setting txns game → (turn_of setting txn game.turns).releases ≡ rs →
+    (turn_of setting txn (gives_back setting txn rs game).turns).releases ≡ []
+owes_back setting txns txn [] game number order owed = owed
+owes_back setting txns txn (r ∷ rs) game number order owed =
+    let turn = turn_of setting txn game.turns in
+    let of_game = the_turn setting txns txn game number order in
+    let own = turn_of_txn setting txn game.turns (ap (is_in txn) order.numbers ∙ number) in
+    let move = frees (receipt_after setting game.events 0 txn (Free r.tree r.range r.first 0)) in
+    let next = does setting turn move game in
+    let there : turn_of setting txn next.turns ≡ turn_after turn move = ap (λ (n : ℕ). turn_of setting n next.turns) (sym own) ∙ turn_after_does setting txns game turn move of_game in
+    owes_back setting txns txn rs next number
+    (in_order_with setting txns next.events game.released game (turn_after turn move) order (steady_freed setting turn (turn_has (IsSteady setting) setting txns game turn of_game order.steady)))
+    (ap (λ (t : Turn). t.releases) there ∙ ap rest_of_release owed)
+
+owes_settles : (setting : Setting) (txns : List ℕ) (txn : ℕ) (game : Game) → is_in txn txns ≡ true → IsInOrder setting txns game → Owes (turn_of setting txn (settles setting (turn_of setting txn game.turns) game).turns)
+owes_settles setting txns txn game number order = by_outcome (is_some turn.outcome) refl
+  where
+    turn : Turn
+    turn = turn_of setting txn game.turns
+    own : turn.txn ≡ txn
+    own = turn_of_txn setting txn game.turns (ap (is_in txn) order.numbers ∙ number)
+    by_outcome : (b : Bool) → is_some turn.outcome ≡ b → Owes (turn_of setting txn (if b then record (gives_back setting turn.txn turn.releases game) { released = true } else game).turns)
+    by_outcome true ended = λ over.
+        ap (λ (n : ℕ). (turn_of setting n (gives_back setting turn.txn turn.releases game).turns).releases) (sym own)
+        ∙ owes_back setting txns turn.txn turn.releases game (ap (λ (n : ℕ). is_in n txns) own ∙ number) order (ap (λ (n : ℕ). (turn_of setting n game.turns).releases) own)
+    by_outcome false goes = λ over. never (is_some turn.outcome) goes over
+
+owes_line : (setting : Setting) (txns : List ℕ) (txn : ℕ) (lines : List Line) (game : Game) → is_in txn txns ≡ true → IsInOrder setting txns game → is_some (turn_of setting txn game.turns).outcome ≡ false → (turn_of setting txn game.turns).lines ≡ lines →
+    Owes (turn_of setting txn (plays_line setting txn lines game).turns)
+owes_line setting txns txn [] game number order goes same = λ over. never (is_some (turn_of setting txn game.turns).outcome) goes over
+owes_line setting txns txn (line ∷ lines) game number order goes same =
+    let turn = turn_of setting txn game.turns in
+    let at : IsAtLine setting txns game turn line lines = record { of_game = the_turn setting txns txn game number order; goes = goes; next = same } in
+    owes_settles setting txns txn (does setting turn (line_move setting game turn line.deed) game) number (holds_plays setting txns AnyOne (λ g. Unit {0}) game turn line lines (keeps_nothing setting txns) at tt tt).order
+
+owes_on : (setting : Setting) (txns : List ℕ) (txn : ℕ) (lines : List Line) (game : Game) → is_in txn txns ≡ true → IsInOrder setting txns game → Owes (turn_of setting txn game.turns) → Owes (turn_of setting txn (plays_on setting txn lines game).turns)
+owes_on setting txns txn [] game number order owes = owes
+owes_on setting txns txn (line ∷ lines) game number order owes =
+    by_test (is_ready (turn_of setting txn game.turns)) refl (λ onward now. owes_on setting txns txn lines (plays_next setting txn game) number onward now)
+  where
+    turn : Turn
+    turn = turn_of setting txn game.turns
+    by_test : (b : Bool) → is_ready turn ≡ b →
+        (IsInOrder setting txns (plays_next setting txn game) → Owes (turn_of setting txn (plays_next setting txn game).turns) → Owes (turn_of setting txn (plays_on setting txn lines (plays_next setting txn game)).turns)) →
+        Owes (turn_of setting txn (if b then plays_on setting txn lines (plays_next setting txn game) else game).turns)
+    by_test true ready on =
+        let goes = ready_goes turn ready in
+        on (holds_next setting txns AnyOne (λ g. Unit {0}) txn game (keeps_nothing setting txns) tt number (ordered setting txns game order) goes).order (owes_line setting txns txn turn.lines game number order goes refl)
+    by_test false waiting on = owes
+
+-- a turn between two steps
+pub record IsIdle (turn : Turn) : Type 0 where
+  pub rests : Rests turn []
+  pub owes : Owes turn
+
+abbrev IdleAt : Setting → ℕ → Game → Type 0
+IdleAt setting txn game = IsIdle (turn_of setting txn game.turns)
+
 -- All of them.
 pub record AreAtRest (setting : Setting) (txns : List ℕ) (game : Game) : Type 0 where
   pub order : IsInOrder setting txns game
-  pub rest : (txn : ℕ) → is_in txn txns ≡ true → RestsAt setting txn [] game
+  pub rest : (txn : ℕ) → is_in txn txns ≡ true → IsIdle (turn_of setting txn game.turns)
 
 rest_retried : (setting : Setting) (txns : List ℕ) (game : Game) (txn : ℕ) → is_in txn txns ≡ true → AreAtRest setting txns game → AreAtRest setting txns (retried setting game txn)
 rest_retried setting txns game txn number at_rest = record {
@@ -227,18 +290,21 @@ rest_retried setting txns game txn number at_rest = record {
   where
     turn : Turn
     turn = turn_of setting txn game.turns
-    own : (b : Bool) → is_waiting turn ≡ b → RestsAt setting txn [] (if b then (let next = plays_next setting txn game in plays_on setting txn (turn_of setting txn next.turns).lines next) else game)
+    own : (b : Bool) → is_waiting turn ≡ b → IdleAt setting txn (if b then (let next = plays_next setting txn game in plays_on setting txn (turn_of setting txn next.turns).lines next) else game)
     own true held =
         let goes = waits_goes setting turn (turn_has (IsSteady setting) setting txns game turn (the_turn setting txns txn game number at_rest.order) at_rest.order.steady) held in
         let next = holds_next setting txns AnyOne (λ g. Unit {0}) txn game (keeps_nothing setting txns) tt number (ordered setting txns game at_rest.order) goes in
-        rests_on setting txns txn (turn_of setting txn (plays_next setting txn game).turns).lines (plays_next setting txn game) number next.order (λ ready. refl)
+        record {
+          rests = rests_on setting txns txn (turn_of setting txn (plays_next setting txn game).turns).lines (plays_next setting txn game) number next.order (λ ready. refl);
+          owes = owes_on setting txns txn (turn_of setting txn (plays_next setting txn game).turns).lines (plays_next setting txn game) number next.order (owes_line setting txns txn turn.lines game number at_rest.order goes refl);
+        }
     own false free = at_rest.rest txn number
-    by_number : (other : ℕ) → is_in other txns ≡ true → (b : Bool) → (other == txn) ≡ b → RestsAt setting other [] (retried setting game txn)
-    by_number other there true e = subst (λ (n : ℕ). RestsAt setting n [] (retried setting game txn)) (sym (eq_of other txn e)) (own (is_waiting turn) refl)
+    by_number : (other : ℕ) → is_in other txns ≡ true → (b : Bool) → (other == txn) ≡ b → IdleAt setting other (retried setting game txn)
+    by_number other there true e = subst (λ (n : ℕ). IdleAt setting n (retried setting game txn)) (sym (eq_of other txn e)) (own (is_waiting turn) refl)
     by_number other there false e =
         let stays = holds_retried setting txns (λ n. other ≢ n) (λ g. turn_of setting other g.turns ≡ turn_of setting other game.turns) game txn (keeps_other setting txns other (turn_of setting other game.turns))
         (λ same. absurd (let k : false ≡ true = sym e ∙ eq-eqb other txn same in cc)) number (record { order = at_rest.order; is = refl }) in
-        subst (λ (t : Turn). Rests t []) (sym stays.is) (at_rest.rest other there)
+        subst IsIdle (sym stays.is) (at_rest.rest other there)
 
 rest_marked : (setting : Setting) (txns : List ℕ) (game : Game) (released : Bool) → AreAtRest setting txns game → AreAtRest setting txns (record game { released = released })
 rest_marked setting txns game released at_rest = record { order = record { sorted = at_rest.order.sorted; numbers = at_rest.order.numbers; steady = at_rest.order.steady }; rest = at_rest.rest }
@@ -281,8 +347,8 @@ rest_added setting txns game turn line of_game fits at_rest = by_outcome (is_som
     steady = turn_has (IsSteady setting) setting txns game turn of_game of_game.order.steady
     order : is_some turn.outcome ≡ false → IsInOrder setting txns next
     order goes = in_order_with setting txns game.events game.released game new of_game.order (steady_taking setting turn line goes fits steady)
-    others : (other : ℕ) → is_in other txns ≡ true → other ≢ turn.txn → RestsAt setting other [] next
-    others other inside differs = subst (λ (t : Turn). Rests t []) (sym (turn_of_other setting other new game.turns differs)) (at_rest.rest other inside)
+    others : (other : ℕ) → is_in other txns ≡ true → other ≢ turn.txn → IdleAt setting other next
+    others other inside differs = subst IsIdle (sym (turn_of_other setting other new game.turns differs)) (at_rest.rest other inside)
     by_number : (P : ℕ → Type 0) (other : ℕ) → P turn.txn → (other ≢ turn.txn → P other) → P other
     by_number P other mine rest = by_test (other == turn.txn) refl
       where
@@ -292,28 +358,33 @@ rest_added setting txns game turn line of_game fits at_rest = by_outcome (is_som
     by_waiting : (b : Bool) → is_waiting turn ≡ b → is_some turn.outcome ≡ false → AreAtRest setting txns (if b then next else plays_next setting turn.txn next)
     by_waiting true held goes = record {
       order = order goes;
-      rest = λ other inside. by_number (λ n. RestsAt setting n [] next) other (subst (λ (t : Turn). Rests t []) (sym there) (λ ready. not_ready new held ready)) (others other inside);
+      rest = λ other inside. by_number (λ n. IdleAt setting n next) other (subst IsIdle (sym there) (record { rests = λ ready. not_ready new held ready; owes = λ over. never (is_some turn.outcome) goes over })) (others other inside);
     }
     by_waiting false free goes =
         let onward = holds_next setting txns AnyOne (λ g. Unit {0}) turn.txn next (keeps_nothing setting txns) tt of_game.number (ordered setting txns next (order goes)) (ap (λ (t : Turn). is_some t.outcome) there ∙ goes) in
         record {
           order = onward.order;
-          rest = λ other inside. by_number (λ n. RestsAt setting n [] (plays_next setting turn.txn next)) other mine (λ differs.
+          rest = λ other inside. by_number (λ n. IdleAt setting n (plays_next setting turn.txn next)) other mine (λ differs.
               let stays = holds_next setting txns (λ n. other ≢ n) (λ g. turn_of setting other g.turns ≡ turn_of setting other next.turns) turn.txn next (keeps_other setting txns other (turn_of setting other next.turns)) differs of_game.number
               (record { order = order goes; is = refl }) (ap (λ (t : Turn). is_some t.outcome) there ∙ goes) in
-              subst (λ (t : Turn). Rests t []) (sym stays.is) (others other inside differs));
+              subst IsIdle (sym stays.is) (others other inside differs));
         }
       where
         ready_now : (o : Option Outcome) → is_some o ≡ false → (is_none o && true) ≡ true
         ready_now None e = refl
         ready_now (Some o) e = absurd cc
         empty : turn.lines ≡ []
-        empty = ap (λ (t : Turn). t.lines) (sym of_game.there) ∙ at_rest.rest turn.txn of_game.number
+        empty = ap (λ (t : Turn). t.lines) (sym of_game.there) ∙ (at_rest.rest turn.txn of_game.number).rests
             (ap is_ready of_game.there ∙ ap (λ (b : Bool). is_none turn.outcome && not b) free ∙ ready_now turn.outcome goes)
-        mine : RestsAt setting turn.txn [] (plays_next setting turn.txn next)
-        mine = subst (λ (ls : List Line). RestsAt setting turn.txn ls (plays_next setting turn.txn next))
+        rested : RestsAt setting turn.txn [] (plays_next setting turn.txn next)
+        rested = subst (λ (ls : List Line). RestsAt setting turn.txn ls (plays_next setting turn.txn next))
             (ap rest_of (ap (λ (t : Turn). t.lines) there ∙ ap (λ (ls : List Line). ls ++ line ∷ []) empty))
             (rests_line setting txns turn.txn (turn_of setting turn.txn next.turns).lines next of_game.number (order goes) (ap (λ (t : Turn). is_some t.outcome) there ∙ goes) refl)
+        mine : IdleAt setting turn.txn (plays_next setting turn.txn next)
+        mine = record {
+          rests = rested;
+          owes = owes_line setting txns turn.txn (turn_of setting turn.txn next.turns).lines next of_game.number (order goes) (ap (λ (t : Turn). is_some t.outcome) there ∙ goes) refl;
+        }
     by_outcome : (b : Bool) → is_some turn.outcome ≡ b → AreAtRest setting txns (if b then game else if is_waiting turn then next else plays_next setting turn.txn next)
     by_outcome true ended = at_rest
     by_outcome false goes = by_waiting (is_waiting turn) refl goes

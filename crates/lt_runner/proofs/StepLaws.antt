@@ -148,7 +148,7 @@ holds_ends_one setting txns P game keeps between =
         let of_game : IsTurnOf setting txns game turn = record { order = order; number = sym (ap (is_in turn.txn) order.numbers) ∙ found.number; there = found.there } in
         let goes = ready_goes turn found.ready in
         let fits : IsFitLine setting turn.txn (end_of turn.txn) = record { own = refl; deed = tt } in
-        let empty : turn.lines ≡ [] = ap (λ (t : Turn). t.lines) (sym found.there) ∙ between.at_rest.rest turn.txn of_game.number (ap is_ready found.there ∙ found.ready) in
+        let empty : turn.lines ≡ [] = ap (λ (t : Turn). t.lines) (sym found.there) ∙ (between.at_rest.rest turn.txn of_game.number).rests (ap is_ready found.there ∙ found.ready) in
         record {
           holds = holds_added setting txns (P []) game turn (end_of turn.txn) (keeps.moves []) of_game fits
               (λ goes. keeps.ends game turn (record { of_game = of_game; ready = found.ready; empty = empty }) between.holds.is)
@@ -194,14 +194,20 @@ opening_numbers setting (txn ∷ txns) = ap (λ (ns : List ℕ). txn ∷ ns) (op
 pub opening_in_order : (setting : Setting) (txns : List ℕ) → IsStrictlySortedBy nat_cmp txns → IsInOrder setting txns (opening_game setting txns)
 opening_in_order setting txns sorted = record { sorted = sorted; numbers = opening_numbers setting txns; steady = opening_steady setting txns }
 
-no_lines : (setting : Setting) (txns : List ℕ) → AllByRecursion (λ turn. turn.lines ≡ []) (map (λ txn. opening_turn setting txn []) txns)
-no_lines setting [] = tt
-no_lines setting (txn ∷ txns) = (refl, no_lines setting txns)
+abbrev IsFresh : Turn → Type 0
+IsFresh turn = (turn.lines ≡ []) × (turn.releases ≡ [])
+
+all_fresh : (setting : Setting) (txns : List ℕ) → AllByRecursion IsFresh (map (λ txn. opening_turn setting txn []) txns)
+all_fresh setting [] = tt
+all_fresh setting (txn ∷ txns) = ((refl, refl), all_fresh setting txns)
 
 pub opening_at_rest : (setting : Setting) (txns : List ℕ) → IsStrictlySortedBy nat_cmp txns → AreAtRest setting txns (opening_game setting txns)
 opening_at_rest setting txns sorted = record {
   order = opening_in_order setting txns sorted;
-  rest = λ txn there ready. at_turn (λ turn. turn.lines ≡ []) setting txn (map (λ n. opening_turn setting n []) txns) (ap (is_in txn) (opening_numbers setting txns) ∙ there) (no_lines setting txns);
+  rest = λ txn there. record {
+    rests = λ ready. (at_turn IsFresh setting txn (map (λ n. opening_turn setting n []) txns) (ap (is_in txn) (opening_numbers setting txns) ∙ there) (all_fresh setting txns)).0;
+    owes = λ over. (at_turn IsFresh setting txn (map (λ n. opening_turn setting n []) txns) (ap (is_in txn) (opening_numbers setting txns) ∙ there) (all_fresh setting txns)).1;
+  };
 }
 
 -- what each step keeps, and the first game has, the last one has
