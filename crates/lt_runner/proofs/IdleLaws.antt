@@ -128,7 +128,7 @@ move_rests setting game turn line lines next = by_deed line.deed refl
 
 -- What moves keep.
 
-keeps_nothing : (setting : Setting) (txns : List ℕ) → KeepsOf setting txns AnyOne (λ game. Unit {0})
+pub keeps_nothing : (setting : Setting) (txns : List ℕ) → KeepsOf setting txns AnyOne (λ game. Unit {0})
 keeps_nothing setting txns = record { plays = λ game turn line lines at m is. tt; gives = λ game turn r rs at m is. tt; marks = λ game released is. tt }
 
 ordered : (setting : Setting) (txns : List ℕ) (game : Game) → IsInOrder setting txns game → Holds setting txns (λ game. Unit {0}) game
@@ -138,7 +138,7 @@ eq_of : (a b : ℕ) → (a == b) ≡ true → a ≡ b
 eq_of a b e = grind (arith, nat_tests)
 
 -- another's turn stays
-keeps_other : (setting : Setting) (txns : List ℕ) (other : ℕ) (t : Turn) → KeepsOf setting txns (λ txn. other ≢ txn) (λ game. turn_of setting other game.turns ≡ t)
+pub keeps_other : (setting : Setting) (txns : List ℕ) (other : ℕ) (t : Turn) → KeepsOf setting txns (λ txn. other ≢ txn) (λ game. turn_of setting other game.turns ≡ t)
 keeps_other setting txns other t = record {
   plays = λ game turn line lines at differs is. turn_of_other setting other (turn_after turn (line_move setting game turn line.deed)) game.turns (λ same. differs (same ∙ after_txn turn (line_move setting game turn line.deed))) ∙ is;
   gives = λ game turn r rs at differs is. turn_of_other setting other (turn_after turn (frees (receipt_after setting game.events 0 turn.txn (Free r.tree r.range r.first 0)))) game.turns differs ∙ is;
@@ -146,7 +146,7 @@ keeps_other setting txns other t = record {
 }
 
 -- one that has ended stays so
-keeps_ended : (setting : Setting) (txns : List ℕ) (txn : ℕ) → KeepsOf setting txns AnyOne (λ game. is_some (turn_of setting txn game.turns).outcome ≡ true)
+pub keeps_ended : (setting : Setting) (txns : List ℕ) (txn : ℕ) → KeepsOf setting txns AnyOne (λ game. is_some (turn_of setting txn game.turns).outcome ≡ true)
 keeps_ended setting txns txn = record {
   plays = λ game turn line lines at m is. at_play game turn line lines at is (txn == turn.txn) refl;
   gives = λ game turn r rs at m is. at_free game turn r rs at is (txn == turn.txn) refl;

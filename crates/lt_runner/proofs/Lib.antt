@@ -20,6 +20,8 @@ pub mod SearchedLaws
 pub mod WishLaws
 pub mod AttemptLaws
 pub mod FollowLaws
+pub mod FitLaws
+pub mod EndLaws
 pub mod PlayedLaws
 pub mod GrowthLaws
 pub mod RunLaws

@@ -112,7 +112,7 @@ pub record IsFound (setting : Setting) (turns : List Turn) (turn : Turn) : Type 
   pub ready : is_ready turn ≡ true
 
 -- the first that is ready is one of the turns
-found_ready : (setting : Setting) (turns : List Turn) (turn : Turn) → IsStrictlySortedBy nat_cmp (numbers turns) → find is_ready turns ≡ Some turn → IsFound setting turns turn
+pub found_ready : (setting : Setting) (turns : List Turn) (turn : Turn) → IsStrictlySortedBy nat_cmp (numbers turns) → find is_ready turns ≡ Some turn → IsFound setting turns turn
 unfolding IsStrictlySortedBy
 found_ready setting [] turn sorted found = absurd cc
 found_ready setting (t ∷ ts) turn sorted found = by_test (is_ready t) refl found (found_ready setting ts turn sorted.1)
