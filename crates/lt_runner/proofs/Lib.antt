@@ -22,6 +22,7 @@ pub mod AttemptLaws
 pub mod FollowLaws
 pub mod FitLaws
 pub mod EndLaws
+pub mod NoLockLaws
 pub mod PlayedLaws
 pub mod GrowthLaws
 pub mod RunLaws
