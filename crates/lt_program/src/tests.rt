@@ -113,12 +113,17 @@ fn traces_are_played(rt: HostRuntime) -> Result<(), Fail> {
 }
 
 /// What is shown, the header, the lines of the body, and the transcript.
-const WITH_HEADERS: [(&str, &str, &str, &str); 4] = [
+const WITH_HEADERS: [(&str, &str, &str, &str); 5] = [
     (
         "the limit is one row",
         "rangelock 1\ntrees 1\nlimit 1\nbuffer 0\n",
         "1 try 0 \"a\" \"a\"\n2 try 0 \"c\" \"c\"\n",
-        "0 1 ask 0 \"a\" \"a\" granted\n1 1 free 0 \"a\" \"a\" 1\ntxn 1 done\ntxn 2 outoflocks 1 1\nend 2 0\n",
+        "0 1 ask 0 \"a\" \"a\" granted\n\
+            1 2 join 0 1 1\n\
+            2 1 free 0 \"a\" \"a\" 1\n\
+            txn 1 done\n\
+            txn 2 outoflocks 2 1\n\
+            end 3 0\n",
     ),
     (
         "trees are given back in ascending order",
@@ -140,12 +145,28 @@ const WITH_HEADERS: [(&str, &str, &str, &str); 4] = [
         "1 try 1 \"a\" \"a\"\n2 try 0 \"a\" \"a\"\n3 try 1 \"c\" \"c\"\n",
         "0 1 ask 1 \"a\" \"a\" granted\n\
             1 2 ask 0 \"a\" \"a\" granted\n\
-            2 1 free 1 \"a\" \"a\" 1\n\
-            3 2 free 0 \"a\" \"a\" 1\n\
+            2 3 join 0 1 1\n\
+            3 3 join 1 1 1\n\
+            4 1 free 1 \"a\" \"a\" 1\n\
+            5 2 free 0 \"a\" \"a\" 1\n\
             txn 1 done\n\
             txn 2 done\n\
-            txn 3 outoflocks 2 2\n\
-            end 4 0\n",
+            txn 3 outoflocks 4 2\n\
+            end 6 0\n",
+    ),
+    (
+        "joining neighbours makes room at the limit",
+        "rangelock 1\ntrees 1\nlimit 2\nbuffer 0\n",
+        "1 try 0 \"a\" \"a\"\n1 try 0 \"b\" \"b\"\n1 try 0 \"c\" \"c\"\n",
+        "0 1 ask 0 \"a\" \"a\" granted\n\
+            1 1 ask 0 \"b\" \"b\" granted\n\
+            2 1 join 0 2 1\n\
+            3 1 ask 0 \"c\" \"c\" granted\n\
+            4 1 free 0 \"a\" \"a\" 1\n\
+            5 1 free 0 \"b\" \"b\" 0\n\
+            6 1 free 0 \"c\" \"c\" 1\n\
+            txn 1 done\n\
+            end 7 0\n",
     ),
     (
         "prefix endpoints in the second version",

@@ -29,3 +29,4 @@ pub mod RunLaws
 pub mod WholeLaws
 pub mod OrderLaws
 pub mod HeadlineLaws
+pub mod AskedLaws

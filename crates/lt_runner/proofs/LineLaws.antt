@@ -1,5 +1,5 @@
 -- What the scheduler does at a line, where no turn waits.
-use Rattle.std.proofs.Common.{◌≡◌, ℕ, ◌+◌, ◌<◌, ◌≤◌, List, [], ◌∷◌, ◌++◌, Bool, true, false, if◌then◌else◌, Option, Some, None, is_some, length, nat_lt, get_or, slice_set, nat_cmp, refl, sym, ap, subst, ◌∙◌, append-nil, arith}
+use Rattle.std.proofs.Common.{◌≡◌, ℕ, ◌+◌, ◌<◌, ◌≤◌, List, [], ◌∷◌, ◌++◌, Bool, true, false, if◌then◌else◌, Option, Some, None, is_some, length, nat_lt, get_or, slice_set, zero, suc, nat_cmp, refl, sym, ap, subst, ◌∙◌, append-nil, append_assoc, map-append, map, arith}
 use Rattle.std.specs.List.{All}
 use Rattle.std.specs.List.Sorted.{IsStrictlySortedBy}
 use Rattle.std.proofs.Math.Seq.{map-set_same}
@@ -14,7 +14,9 @@ use Rattle.lt_seq.specs.declared.event.Event.{Event}
 use Rattle.lt_seq.specs.Table.{Setting, used}
 use Rattle.lt_seq.specs.History.{after}
 use Rattle.lt_seq.specs.Yard.{place_after, event_after}
-use Rattle.lt_seq.specs.Questions.{receipt_after}
+use Rattle.lt_seq.specs.declared.event.Receipt.{Receipt}
+use Rattle.lt_seq.specs.Questions.{receipt_after, events_of}
+use Rattle.lt_seq.specs.Passes.{numbers_from}
 use Rattle.lt_trace.specs.declared.line.Line.{Line}
 use Rattle.lt_trace.specs.declared.line.LineDeed.{LineDeed}
 use Rattle.lt_trace.specs.declared.line.LineDeed.TheVariants.{Try, Lock, End, Abort, Escalate, Big}
@@ -23,8 +25,8 @@ use Rattle.lt_history.specs.declared.outcome.Outcome.TheVariants.{Done, OutOfLoc
 use Rattle.lt_runner.specs.declared.release.Release.{Release}
 use Rattle.lt_runner.specs.TurnView.{Turn, Recorded}
 use Rattle.lt_runner.specs.Turn.{Move, frees, asks, stops, releases_from, ending, answered_by, reply_in, nothing_recorded, rest_of_release}
-use Rattle.lt_runner.specs.Serial.{Game, game_at, settled, takes_line, turn_of, with_turn, does, gives_back, settles, plays_line, line_move, added}
-use Rattle.lt_runner.specs.AtOnce.{IsQuiet, IsPlain, Step, step_at, freed, ended_by, lined, played_by, owed_in, owed, numbers_of}
+use Rattle.lt_runner.specs.Serial.{Game, game_at, settled, takes_line, turn_of, with_turn, does, gives_back, settles, plays_line, line_move, added, joins_of}
+use Rattle.lt_runner.specs.AtOnce.{IsQuiet, IsPlain, Step, step_at, freed, ended_by, joined_events, asks_behind, most_joins, lined, played_by, owed_in, owed, numbers_of}
 use Rattle.lt_runner.proofs.TurnsLaws.{with_turn_twice, on_true, turn_of_at, with_turn_at}
 use Rattle.lt_runner.proofs.QuietLaws.{settled_quiet}
 use Rattle.lt_runner.proofs.FreeLaws.{length-freed, length-releases_from}
@@ -107,43 +109,66 @@ moves_end setting txn number recorded turns events released there =
     ∙ settles_there setting txn old new turns events released there refl refl
     ∙ settles_ended setting Done old turns events released there
 
--- by whether there is room
-abbrev try_move : Setting → ℕ → List Event → ℕ → Interval → Bool → Move
-try_move setting txn events tree range room =
-    if room then asks [] (receipt_after setting events 0 txn (Ask tree range Granted)) else stops [] (place_after setting events) (used (after setting events))
+-- by whether there is room, at once and behind the joins
+abbrev try_move : Setting → ℕ → List Event → ℕ → Interval → Bool → Bool → Move
+try_move setting txn events tree range room later_room =
+    if room then asks [] (receipt_after setting events 0 txn (Ask tree range Granted))
+    else (let joins = joins_of setting txn (numbers_from 0 setting.plan.trees) events in
+    let later = events ++ events_of joins in
+    if later_room then asks joins (receipt_after setting later 0 txn (Ask tree range Granted)) else stops joins (place_after setting later) (used (after setting later)))
 
-abbrev pub try_step : Setting → ℕ → List Recorded → List Event → ℕ → Interval → Bool → Step
-try_step setting txn recorded events tree range room =
-    if room
-    then (let ask = event_after setting events 0 txn (Ask tree range Granted) in
-    record { events = events ++ ask ∷ []; turn = answered_by tree range (reply_in ask.deed) (open_turn txn recorded) })
-    else ended_by setting (OutOfLocks (place_after setting events) (used (after setting events))) (step_at events (open_turn txn recorded))
+abbrev pub try_step : Setting → ℕ → List Recorded → List Event → ℕ → Interval → Bool → Bool → Step
+try_step setting txn recorded events tree range room later_room =
+    if room then asks_behind setting tree range (open_turn txn recorded) events
+    else (let later = joined_events setting txn events in
+    if later_room then asks_behind setting tree range (open_turn txn recorded) later
+    else ended_by setting (OutOfLocks (place_after setting later) (used (after setting later))) (step_at later (open_turn txn recorded)))
 
-moves_by_room : (setting : Setting) (txn number : ℕ) (recorded : List Recorded) (tree : ℕ) (range : Interval) (turns : List Turn) (events : List Event) (released : Bool) → IsThere setting txn turns → (room : Bool) →
+-- it asks behind these joins
+moves_asked : (setting : Setting) (txn number : ℕ) (recorded : List Recorded) (tree : ℕ) (range : Interval) (turns : List Turn) (events : List Event) (released : Bool) (joins : List Receipt) → IsThere setting txn turns →
     (let old = next_turn txn recorded (line_with txn number (Try tree range)) in
-    let next = does setting old (try_move setting txn events tree range room) (game_at events (with_turn old turns) released) in
+    let next = does setting old (asks joins (receipt_after setting (events ++ events_of joins) 0 txn (Ask tree range Granted))) (game_at events (with_turn old turns) released) in
     settles setting (turn_of setting txn next.turns) next)
-    ≡ goes_to (try_step setting txn recorded events tree range room) turns released
-moves_by_room setting txn number recorded tree range turns events released there true =
+    ≡ goes_to (asks_behind setting tree range (open_turn txn recorded) (events ++ events_of joins)) turns released
+moves_asked setting txn number recorded tree range turns events released joins there =
+    let line = line_with txn number (Try tree range) in
+    let old = next_turn txn recorded line in
+    let later = events ++ events_of joins in
+    let ask = receipt_after setting later 0 txn (Ask tree range Granted) in
+    let reply = reply_in ask.event.deed in
+    let new = answered_by tree range reply old in
+    ap (λ es. settles setting (turn_of setting txn (with_turn new (with_turn old turns))) (game_at es (with_turn new (with_turn old turns)) released))
+        (ap (λ es. events ++ es) (map-append (λ (r : Receipt). r.event) joins (ask ∷ [])) ∙ sym (append_assoc events (events_of joins) (ask.event ∷ [])))
+    ∙ settles_there setting txn old new turns (later ++ ask.event ∷ []) released there refl (answered_txn tree range reply old)
+    ∙ settles_answered setting txn recorded line tree range turns (later ++ ask.event ∷ []) released reply
+
+moves_by_room : (setting : Setting) (txn number : ℕ) (recorded : List Recorded) (tree : ℕ) (range : Interval) (turns : List Turn) (events : List Event) (released : Bool) → IsThere setting txn turns → (room later_room : Bool) →
+    (let old = next_turn txn recorded (line_with txn number (Try tree range)) in
+    let next = does setting old (try_move setting txn events tree range room later_room) (game_at events (with_turn old turns) released) in
+    settles setting (turn_of setting txn next.turns) next)
+    ≡ goes_to (try_step setting txn recorded events tree range room later_room) turns released
+moves_by_room setting txn number recorded tree range turns events released there true later_room =
     let line = line_with txn number (Try tree range) in
     let old = next_turn txn recorded line in
     let ask = receipt_after setting events 0 txn (Ask tree range Granted) in
     let reply = reply_in ask.event.deed in
     settles_there setting txn old (answered_by tree range reply old) turns (events ++ ask.event ∷ []) released there refl (answered_txn tree range reply old)
     ∙ settles_answered setting txn recorded line tree range turns (events ++ ask.event ∷ []) released reply
-moves_by_room setting txn number recorded tree range turns events released there false =
+moves_by_room setting txn number recorded tree range turns events released there false true =
+    moves_asked setting txn number recorded tree range turns events released (joins_of setting txn (numbers_from 0 setting.plan.trees) events) there
+moves_by_room setting txn number recorded tree range turns events released there false false =
     let old = next_turn txn recorded (line_with txn number (Try tree range)) in
-    let outcome = OutOfLocks (place_after setting events) (used (after setting events)) in
+    let later = joined_events setting txn events in
+    let outcome = OutOfLocks (place_after setting later) (used (after setting later)) in
     let new = ending outcome old in
-    ap (λ es. settles setting (turn_of setting txn (with_turn new (with_turn old turns))) (game_at es (with_turn new (with_turn old turns)) released)) (append-nil events)
-    ∙ settles_there setting txn old new turns events released there refl refl
-    ∙ settles_ended setting outcome old turns events released there
+    settles_there setting txn old new turns later released there refl refl
+    ∙ settles_ended setting outcome old turns later released there
 
 moves_line : (setting : Setting) (txn number : ℕ) (recorded : List Recorded) (deed : LineDeed) (turns : List Turn) (events : List Event) (released : Bool) → IsThere setting txn turns → IsPlain setting deed →
     moves_on setting txn turns events released (next_turn txn recorded (line_with txn number deed)) deed
     ≡ goes_to (lined setting deed (step_at events (open_turn txn recorded))) turns released
 moves_line setting txn number recorded (Try tree range) turns events released there plain =
-    moves_by_room setting txn number recorded tree range turns events released there (nat_lt (used (after setting events)) setting.plan.limit)
+    moves_by_room setting txn number recorded tree range turns events released there (nat_lt (used (after setting events)) setting.plan.limit) (nat_lt (used (after setting (joined_events setting txn events))) setting.plan.limit)
 moves_line setting txn number recorded (Lock tree range) turns events released there plain = absurd plain
 moves_line setting txn number recorded End turns events released there plain = moves_end setting txn number recorded turns events released there
 moves_line setting txn number recorded Abort turns events released there plain = absurd plain
@@ -165,21 +190,43 @@ added_open setting txn number recorded deed turns events released there plain =
 -- What a step leaves.
 
 -- by how much the events and the frees that are owed may grow at a line
-abbrev pub gain_of : LineDeed → ℕ
-gain_of (Try tree range) = 3
-gain_of (Lock tree range) = 0
-gain_of End = 0
-gain_of Abort = 0
-gain_of (Escalate tree) = 0
-gain_of Big = 0
+abbrev pub gain_of : Setting → LineDeed → ℕ
+gain_of setting (Try tree range) = setting.plan.trees + 3
+gain_of setting (Lock tree range) = 0
+gain_of setting End = 0
+gain_of setting Abort = 0
+gain_of setting (Escalate tree) = 0
+gain_of setting Big = 0
 
-pub gain_most : (deed : LineDeed) → gain_of deed ≤ 3
-gain_most (Try tree range) = omega arith
-gain_most (Lock tree range) = omega arith
-gain_most End = omega arith
-gain_most Abort = omega arith
-gain_most (Escalate tree) = omega arith
-gain_most Big = omega arith
+pub gain_most : (setting : Setting) (deed : LineDeed) → gain_of setting deed ≤ setting.plan.trees + 3
+gain_most setting (Try tree range) = omega arith
+gain_most setting (Lock tree range) = omega arith
+gain_most setting End = omega arith
+gain_most setting Abort = omega arith
+gain_most setting (Escalate tree) = omega arith
+gain_most setting Big = omega arith
+
+pub joins_most : (setting : Setting) (deed : LineDeed) → most_joins setting deed ≤ setting.plan.trees
+joins_most setting (Try tree range) = omega arith
+joins_most setting (Lock tree range) = omega arith
+joins_most setting End = omega arith
+joins_most setting Abort = omega arith
+joins_most setting (Escalate tree) = omega arith
+joins_most setting Big = omega arith
+
+length_numbers : (n count : ℕ) → length (numbers_from n count) ≡ count
+length_numbers n zero = refl
+length_numbers n (suc count) = ap suc (length_numbers (n + 1) count)
+
+length_joins : (setting : Setting) (txn : ℕ) (trees : List ℕ) (events : List Event) → length (events_of (joins_of setting txn trees events)) ≡ length trees
+length_joins setting txn [] events = refl
+length_joins setting txn (tree ∷ trees) events = ap suc (length_joins setting txn trees _)
+
+-- a join for each tree
+pub length_joined : (setting : Setting) (txn : ℕ) (events : List Event) → length (joined_events setting txn events) ≡ length events + setting.plan.trees
+length_joined setting txn events =
+    let trees = numbers_from 0 setting.plan.trees in
+    omega (arith, length-append events (events_of (joins_of setting txn trees events)), length_joins setting txn trees events, length_numbers 0 setting.plan.trees)
 
 -- no less is known of the turn than before
 pub record Keeps (setting : Setting) (gain : ℕ) (old new : Step) : Type 0 where
@@ -220,16 +267,30 @@ keeps_ended setting txn recorded events outcome gain quiet = record {
   owed = omega (arith, length-freed setting txn (releases_from 0 recorded) events, length-releases_from 0 recorded);
 }
 
-keeps_by_room : (setting : Setting) (txn : ℕ) (recorded : List Recorded) (events : List Event) (tree : ℕ) (range : Interval) → IsQuiet setting (open_turn txn recorded) → tree < length recorded → (room : Bool) →
-    Keeps setting 3 (step_at events (open_turn txn recorded)) (try_step setting txn recorded events tree range room)
-keeps_by_room setting txn recorded events tree range quiet inside true = keeps_answer setting txn recorded events _ tree range _ quiet inside
-keeps_by_room setting txn recorded events tree range quiet inside false = keeps_ended setting txn recorded events _ 3 quiet
+-- what was kept behind more events
+keeps_later : (setting : Setting) (events later : List Event) (turn : Turn) (new : Step) (gain more : ℕ) → length later ≡ length events + more → Keeps setting gain (step_at later turn) new → Keeps setting (more + gain) (step_at events turn) new
+keeps_later setting events later turn new gain more long keeps = record { txn = keeps.txn; quiet = keeps.quiet; owed = omega (arith, long, keeps.owed) }
+
+keeps_less : (setting : Setting) (old new : Step) (gain more : ℕ) → gain ≤ more → Keeps setting gain old new → Keeps setting more old new
+keeps_less setting old new gain more le keeps = record { txn = keeps.txn; quiet = keeps.quiet; owed = omega (arith, le, keeps.owed) }
+
+keeps_by_room : (setting : Setting) (txn : ℕ) (recorded : List Recorded) (events : List Event) (tree : ℕ) (range : Interval) → IsQuiet setting (open_turn txn recorded) → tree < length recorded → (room later_room : Bool) →
+    Keeps setting (setting.plan.trees + 3) (step_at events (open_turn txn recorded)) (try_step setting txn recorded events tree range room later_room)
+keeps_by_room setting txn recorded events tree range quiet inside true later_room =
+    keeps_less setting (step_at events (open_turn txn recorded)) (asks_behind setting tree range (open_turn txn recorded) events) 3 (setting.plan.trees + 3) (omega arith) (keeps_answer setting txn recorded events _ tree range _ quiet inside)
+keeps_by_room setting txn recorded events tree range quiet inside false true =
+    let later = joined_events setting txn events in
+    keeps_later setting events later (open_turn txn recorded) (asks_behind setting tree range (open_turn txn recorded) later) 3 setting.plan.trees (length_joined setting txn events) (keeps_answer setting txn recorded later _ tree range _ quiet inside)
+keeps_by_room setting txn recorded events tree range quiet inside false false =
+    let later = joined_events setting txn events in
+    keeps_later setting events later (open_turn txn recorded) (ended_by setting (OutOfLocks (place_after setting later) (used (after setting later))) (step_at later (open_turn txn recorded))) 3 setting.plan.trees (length_joined setting txn events)
+        (keeps_ended setting txn recorded later (OutOfLocks (place_after setting later) (used (after setting later))) 3 quiet)
 
 keeps_open : (setting : Setting) (txn : ℕ) (recorded : List Recorded) (events : List Event) (deed : LineDeed) → IsQuiet setting (open_turn txn recorded) → IsPlain setting deed →
-    Keeps setting (gain_of deed) (step_at events (open_turn txn recorded)) (lined setting deed (step_at events (open_turn txn recorded)))
+    Keeps setting (gain_of setting deed) (step_at events (open_turn txn recorded)) (lined setting deed (step_at events (open_turn txn recorded)))
 keeps_open setting txn recorded events (Try tree range) quiet plain =
     let inside : tree < length recorded = omega (arith, quiet.recorded) in
-    keeps_by_room setting txn recorded events tree range quiet inside (nat_lt (used (after setting events)) setting.plan.limit)
+    keeps_by_room setting txn recorded events tree range quiet inside (nat_lt (used (after setting events)) setting.plan.limit) (nat_lt (used (after setting (joined_events setting txn events))) setting.plan.limit)
 keeps_open setting txn recorded events (Lock tree range) quiet plain = absurd plain
 keeps_open setting txn recorded events End quiet plain = keeps_ended setting txn recorded events Done 0 quiet
 keeps_open setting txn recorded events Abort quiet plain = absurd plain
@@ -249,20 +310,20 @@ is_open setting turn quiet goes =
     λ i. record { txn = turn.txn; lines = quiet.lines i; waits = quiet.waits i; recorded = turn.recorded; outcome = none i; releases = quiet.releases i; big = quiet.big i }
 
 keeps_lined : (setting : Setting) (turn : Turn) (events : List Event) (deed : LineDeed) → IsQuiet setting turn → is_some turn.outcome ≡ false → IsPlain setting deed →
-    Keeps setting (gain_of deed) (step_at events turn) (lined setting deed (step_at events turn))
+    Keeps setting (gain_of setting deed) (step_at events turn) (lined setting deed (step_at events turn))
 keeps_lined setting turn events deed quiet goes plain =
     let e = is_open setting turn quiet goes in
-    let P = λ (t : Turn). Keeps setting (gain_of deed) (step_at events t) (lined setting deed (step_at events t)) in
+    let P = λ (t : Turn). Keeps setting (gain_of setting deed) (step_at events t) (lined setting deed (step_at events t)) in
     subst P (sym e) (keeps_open setting turn.txn turn.recorded events deed (subst (IsQuiet setting) e quiet) plain)
 
-keeps_choice : (setting : Setting) (turn : Turn) (events : List Event) (deed : LineDeed) → IsQuiet setting turn → (ended : Bool) → (ended ≡ false → Keeps setting (gain_of deed) (step_at events turn) (lined setting deed (step_at events turn))) →
-    Keeps setting (gain_of deed) (step_at events turn) (if ended then step_at events turn else lined setting deed (step_at events turn))
+keeps_choice : (setting : Setting) (turn : Turn) (events : List Event) (deed : LineDeed) → IsQuiet setting turn → (ended : Bool) → (ended ≡ false → Keeps setting (gain_of setting deed) (step_at events turn) (lined setting deed (step_at events turn))) →
+    Keeps setting (gain_of setting deed) (step_at events turn) (if ended then step_at events turn else lined setting deed (step_at events turn))
 keeps_choice setting turn events deed quiet true on_open = record { txn = refl; quiet = quiet; owed = omega arith }
 keeps_choice setting turn events deed quiet false on_open = on_open refl
 
 -- whether it has ended or not
 pub keeps_played : (setting : Setting) (turn : Turn) (events : List Event) (deed : LineDeed) → IsQuiet setting turn → IsPlain setting deed →
-    Keeps setting (gain_of deed) (step_at events turn) (played_by setting deed (step_at events turn))
+    Keeps setting (gain_of setting deed) (step_at events turn) (played_by setting deed (step_at events turn))
 keeps_played setting turn events deed quiet plain =
     keeps_choice setting turn events deed quiet (is_some turn.outcome) (λ goes. keeps_lined setting turn events deed quiet goes plain)
 

@@ -52,7 +52,7 @@ keeps_numbers : (n : ℕ) (old ns : List ℕ) → is_in n old ≡ true → is_in
 keeps_numbers n old [] e = e
 keeps_numbers n old (m ∷ ms) e = keeps_numbers n (with_number m old) ms (keeps_number n m old e)
 
-has_numbers : (old ns : List ℕ) (k : ℕ) (d : ℕ) → k < length ns → is_in (get_or ns k d) (fold (λ list n. with_number n list) old ns) ≡ true
+pub has_numbers : (old ns : List ℕ) (k : ℕ) (d : ℕ) → k < length ns → is_in (get_or ns k d) (fold (λ list n. with_number n list) old ns) ≡ true
 has_numbers old [] k d inside = absurd (omega arith)
 has_numbers old (n ∷ ns) zero d inside = keeps_numbers n (with_number n old) ns (has_number n old)
 has_numbers old (n ∷ ns) (suc k) d inside = has_numbers (with_number n old) ns k d (omega arith)

@@ -28,9 +28,9 @@ pub record IsPlayed (setting : Setting) (deed : LineDeed) (turns : List Turn) (e
   pub step : step_at new_events new ≡ played_by setting deed (step_at events (get_or turns place d))
 
 pub played_keeps : (setting : Setting) (deed : LineDeed) (turns : List Turn) (events new_events : List Event) (place : ℕ) (d new : Turn) →
-    IsPlayed setting deed turns events new_events place d new → Keeps setting (gain_of deed) (step_at events (get_or turns place d)) (step_at new_events new)
+    IsPlayed setting deed turns events new_events place d new → Keeps setting (gain_of setting deed) (step_at events (get_or turns place d)) (step_at new_events new)
 played_keeps setting deed turns events new_events place d new p =
-    subst (λ step. Keeps setting (gain_of deed) (step_at events (get_or turns place d)) step) (sym p.step)
+    subst (λ step. Keeps setting (gain_of setting deed) (step_at events (get_or turns place d)) step) (sym p.step)
     (keeps_played setting (get_or turns place d) events deed (p.stand.quiet place d p.inside) p.plain)
 
 pub played_numbers : (setting : Setting) (deed : LineDeed) (turns : List Turn) (events new_events : List Event) (place : ℕ) (d new : Turn) →
@@ -48,7 +48,7 @@ played_turns setting deed turns events new_events place d new p =
     }
 
 pub played_owed : (setting : Setting) (deed : LineDeed) (turns : List Turn) (events new_events : List Event) (place : ℕ) (d new : Turn) →
-    IsPlayed setting deed turns events new_events place d new → length new_events + owed_by (slice_set turns place new) ≤ length events + owed_by turns + gain_of deed
+    IsPlayed setting deed turns events new_events place d new → length new_events + owed_by (slice_set turns place new) ≤ length events + owed_by turns + gain_of setting deed
 played_owed setting deed turns events new_events place d new p =
     let keeps = played_keeps setting deed turns events new_events place d new p in
     omega (arith, keeps.owed, sum_by-set owed turns place new d p.inside)

@@ -112,21 +112,33 @@ pub lines_fit : (trace : TraceView) (first : ℕ) (setting : Setting) (lines : L
 lines_fit trace first setting lines same all is_trace =
     subst (λ s. All (IsOfTrace s) lines) (sym same) (subst (All (IsOfTrace (setting_of trace 1 first))) (sym all) (lines_of_trace trace first is_trace))
 
-pub places_fit : (trace : TraceView) (first : ℕ) (setting : Setting) (lines : List Line) → setting ≡ setting_of trace 1 first → lines ≡ trace.lines → IsTrace trace → first ≤ 2 ^ 38 → HasPlaces setting [] (3 * length lines)
+pub places_fit : (trace : TraceView) (first : ℕ) (setting : Setting) (lines : List Line) → setting ≡ setting_of trace 1 first → lines ≡ trace.lines → IsTrace trace → first ≤ 2 ^ 38 → HasPlaces setting [] (19 * length lines)
 places_fit trace first setting lines same all is_trace low =
     omega (arith, ap (λ (s : Setting). s.plan.first) same, ap length all, few_lines trace is_trace)
 
--- a run makes few events: three a line at the most
-times_more : (a b : ℕ) → 1 ≤ b → a ≤ a * b
-times_more a zero low = absurd (omega (arith, low))
-times_more a (suc b) low = omega (arith)
+-- a run makes few events: at a line a join for each of 16 trees at the most, and three others
+times_least : (a k b : ℕ) → k ≤ b → a * k ≤ a * b
+times_least a zero b low = omega arith
+times_least a (suc k) zero low = absurd (omega (arith, low))
+times_least a (suc k) (suc b) low = let less = times_least a k b (omega (arith, low)) in omega (arith, less)
 
-most_is_many : (lines txns trees count : ℕ) → count ≤ 3 * lines → count ≤ most_of lines txns trees
-most_is_many lines txns trees count few =
-    let first = times_more (2 * lines + 2 * txns + 2) (txns + 1) (omega arith) in
-    let second = times_more ((2 * lines + 2 * txns + 2) * (txns + 1)) (2 * trees + txns + 4) (omega arith) in
+some_txns : (lines : List Line) → 0 < length lines → 0 < length (txns_of lines)
+some_txns [] some = absurd (omega arith)
+some_txns (line ∷ lines) some = not_empty (txns_of (line ∷ lines)) (has_numbers [] (map (λ (l : Line). l.txn) (line ∷ lines)) 0 0 (omega arith))
+  where
+    not_empty : (ns : List ℕ) → is_in line.txn ns ≡ true → 0 < length ns
+    not_empty [] there = cc
+    not_empty (n ∷ ns) there = omega arith
+
+most_is_many : (lines txns trees count : ℕ) → (0 < lines → 0 < txns) → count ≤ 19 * lines → count ≤ most_of lines txns trees
+most_is_many zero txns trees count some few = omega (arith, few)
+most_is_many (suc n) txns trees count some few =
+    let there = some (omega arith) in
+    let all = 2 * suc n + 2 * txns + 2 in
+    let first = times_least all 2 (txns + 1) (omega (arith, there)) in
+    let second = times_least (all * (txns + 1)) 5 (2 * trees + txns + 4) (omega (arith, there)) in
     omega (arith, few, first, second)
 
-pub few_events : (trace : TraceView) (lines : List Line) (count : ℕ) → lines ≡ trace.lines → count ≤ 3 * length lines → count ≤ most_events trace
+pub few_events : (trace : TraceView) (lines : List Line) (count : ℕ) → lines ≡ trace.lines → count ≤ 19 * length lines → count ≤ most_events trace
 few_events trace lines count same few =
-    most_is_many (length trace.lines) (length (txns_of trace.lines)) trace.trees count (omega (arith, ap length same, few))
+    most_is_many (length trace.lines) (length (txns_of trace.lines)) trace.trees count (some_txns trace.lines) (omega (arith, ap length same, few))

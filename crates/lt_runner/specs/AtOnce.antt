@@ -22,7 +22,10 @@ use Rattle.lt_history.specs.declared.outcome.Outcome.TheVariants.{Done, OutOfLoc
 use Rattle.lt_runner.specs.declared.release.Release.{Release}
 use Rattle.lt_runner.specs.TurnView.{Turn, Recorded}
 use Rattle.lt_runner.specs.Turn.{answered_by, reply_in, releases_from, nothing_recorded}
+use Rattle.lt_seq.specs.Questions.{events_of}
+use Rattle.lt_seq.specs.Passes.{numbers_from}
 use Rattle.lt_runner.specs.Attempt.{bar_of}
+use Rattle.lt_runner.specs.Serial.{joins_of}
 
 -- the pass has number 0 and all the rights, and has seen a legal history
 pub record IsAlone (setting : Setting) (pass : PassView) : Type 0 where
@@ -78,13 +81,23 @@ ended_by setting outcome step = record {
   turn = record step.turn { outcome = Some outcome };
 }
 
--- it asks for a range where there is room, and is out of locks otherwise
+-- the events behind the joins of all trees
+abbrev pub joined_events : Setting → ℕ → List Event → List Event
+joined_events setting txn events = events ++ events_of (joins_of setting txn (numbers_from 0 setting.plan.trees) events)
+
+-- it asks behind these events
+abbrev pub asks_behind : Setting → ℕ → Interval → Turn → List Event → Step
+asks_behind setting tree range turn events =
+    let ask = event_after setting events 0 turn.txn (Ask tree range Granted) in
+    record { events = events ++ ask ∷ []; turn = answered_by tree range (reply_in ask.deed) turn }
+
+-- it asks for a range where there is room, at once or behind the joins of all trees, and is out of locks otherwise
 abbrev pub asked : Setting → ℕ → Interval → Step → Step
 asked setting tree range step =
-    if nat_lt (used (after setting step.events)) (bar_of setting step.turn)
-    then (let ask = event_after setting step.events 0 step.turn.txn (Ask tree range Granted) in
-    record { events = step.events ++ ask ∷ []; turn = answered_by tree range (reply_in ask.deed) step.turn })
-    else ended_by setting (OutOfLocks (place_after setting step.events) (used (after setting step.events))) step
+    if nat_lt (used (after setting step.events)) (bar_of setting step.turn) then asks_behind setting tree range step.turn step.events
+    else (let later = joined_events setting step.turn.txn step.events in
+    if nat_lt (used (after setting later)) (bar_of setting step.turn) then asks_behind setting tree range step.turn later
+    else ended_by setting (OutOfLocks (place_after setting later) (used (after setting later))) (step_at later step.turn))
 
 -- what a line makes of a turn that goes on
 abbrev pub lined : Setting → LineDeed → Step → Step
@@ -98,6 +111,15 @@ lined setting Big step = step
 -- what it makes of any turn: one that has ended plays no more
 abbrev pub played_by : Setting → LineDeed → Step → Step
 played_by setting deed step = if is_some step.turn.outcome then step else lined setting deed step
+
+-- the events that a line may make, besides what it records or frees
+abbrev pub most_joins : Setting → LineDeed → ℕ
+most_joins setting (Try tree range) = setting.plan.trees
+most_joins setting (Lock tree range) = 0
+most_joins setting End = 0
+most_joins setting Abort = 0
+most_joins setting (Escalate tree) = 0
+most_joins setting Big = 0
 
 -- the frees that a turn may still make
 abbrev pub owed_in : Recorded → ℕ

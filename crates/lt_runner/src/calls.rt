@@ -26,9 +26,9 @@ pub(crate) fn ask<Y: Yard>(
     requires tree { tree < (Y.setting yard.now).plan.trees }
     ensures of { Y.Pass.origin pass.new ≡ origin_of (Y.identity yard.now) (Y.setting yard.now) }
     ensures alone { IsAlone (Y.setting yard.now) (Y.Pass.view pass.new) }
-    ensures answer { AloneAskAnswers (Y.setting yard.now) (Y.Pass.view pass.old) (Y.Pass.view pass.new) txn (Ask tree range.now Granted) result }
+    ensures answer { AloneAskAnswers (Y.setting yard.now) (Y.setting yard.now).plan.limit (Y.Pass.view pass.old) (Y.Pass.view pass.new) txn (Ask tree range.now Granted) result }
 {
-    yard.ask(pass, txn, tree, range)
+    yard.ask(pass, txn, tree, range, false)
 }
 
 /// Makes one free of a release. There is a place for it.

@@ -2,7 +2,7 @@
 ghost use Rattle.std.specs.Prelude.{◌≡◌, ◌≤◌, ◌<◌, OnOk, length};
 ghost use Rattle.lt_seq.specs.Yard.{origin_of};
 ghost use Rattle.lt_runner.specs.Turn.{releases_by, releases_in, releases_from, reply_in};
-ghost use Rattle.lt_runner.specs.AtOnce.{IsAlone, IsAsk, IsQuiet, IsPlain, HasPlaces, Step, step_at, freed, ended_by, asked, played_by, owed_in, owed};
+ghost use Rattle.lt_runner.specs.AtOnce.{IsAlone, IsAsk, IsQuiet, IsPlain, HasPlaces, Step, step_at, freed, ended_by, asked, most_joins, played_by, owed_in, owed};
 ghost use Rattle.std.specs.Prelude.{sum_by, true, is_some, false};
 
 use crate::calls;
@@ -141,7 +141,7 @@ fn ask<Y: Yard>(
     requires quiet { IsQuiet (Y.setting yard.now) turn.old }
     requires open { is_some turn.old.outcome ≡ false }
     requires tree { tree < (Y.setting yard.now).plan.trees }
-    requires places { HasPlaces (Y.setting yard.now) (Y.Pass.view pass.old).front (owed turn.old) }
+    requires places { HasPlaces (Y.setting yard.now) (Y.Pass.view pass.old).front (owed turn.old + (Y.setting yard.now).plan.trees) }
     ensures of { Y.Pass.origin pass.new ≡ origin_of (Y.identity yard.now) (Y.setting yard.now) }
     ensures alone { IsAlone (Y.setting yard.now) (Y.Pass.view pass.new) }
     ensures asked { OnOk result (step_at (Y.Pass.view pass.new).front turn.new ≡ asked (Y.setting yard.now) tree range.now (step_at (Y.Pass.view pass.old).front turn.old)) }
@@ -167,7 +167,7 @@ pub(crate) fn play<Y: Yard>(
     requires alone { IsAlone (Y.setting yard.now) (Y.Pass.view pass.old) }
     requires quiet { IsQuiet (Y.setting yard.now) turn.old }
     requires plain { IsPlain (Y.setting yard.now) deed.now }
-    requires places { HasPlaces (Y.setting yard.now) (Y.Pass.view pass.old).front (owed turn.old) }
+    requires places { HasPlaces (Y.setting yard.now) (Y.Pass.view pass.old).front (owed turn.old + most_joins (Y.setting yard.now) deed.now) }
     ensures of { Y.Pass.origin pass.new ≡ origin_of (Y.identity yard.now) (Y.setting yard.now) }
     ensures alone { IsAlone (Y.setting yard.now) (Y.Pass.view pass.new) }
     ensures played { OnOk result (step_at (Y.Pass.view pass.new).front turn.new ≡ played_by (Y.setting yard.now) deed.now (step_at (Y.Pass.view pass.old).front turn.old)) }

@@ -26,12 +26,12 @@ fn take_line<Y: Yard>(
     requires alone { IsAlone (Y.setting yard.now) (Y.Pass.view pass.old) }
     requires turns { AreQuiet (Y.setting yard.now) turns.old }
     requires line { IsPlayable (Y.setting yard.now) (numbers_of turns.old) line.now }
-    requires places { HasPlaces (Y.setting yard.now) (Y.Pass.view pass.old).front (owed_by turns.old) }
+    requires places { HasPlaces (Y.setting yard.now) (Y.Pass.view pass.old).front (owed_by turns.old + 16) }
     ensures of { Y.Pass.origin pass.new ≡ origin_of (Y.identity yard.now) (Y.setting yard.now) }
     ensures alone { IsAlone (Y.setting yard.now) (Y.Pass.view pass.new) }
     ensures turns { OnOk result (AreQuiet (Y.setting yard.now) turns.new) }
     ensures numbers { OnOk result (numbers_of turns.new ≡ numbers_of turns.old) }
-    ensures owed { OnOk result (length (Y.Pass.view pass.new).front + owed_by turns.new ≤ length (Y.Pass.view pass.old).front + owed_by turns.old + 3) }
+    ensures owed { OnOk result (length (Y.Pass.view pass.new).front + owed_by turns.new ≤ length (Y.Pass.view pass.old).front + owed_by turns.old + 19) }
     ensures game { OnOk result (game_at (Y.Pass.view pass.new).front turns.new false
         ≡ takes_line (Y.setting yard.now) (numbers_of turns.old) (game_at (Y.Pass.view pass.old).front turns.old false) line.now) }
 {
@@ -50,12 +50,12 @@ fn take_lines<Y: Yard>(
     requires alone { IsAlone (Y.setting yard.now) (Y.Pass.view pass.old) }
     requires turns { AreQuiet (Y.setting yard.now) turns.old }
     requires lines { All (IsPlayable (Y.setting yard.now) (numbers_of turns.old)) lines.now }
-    requires places { HasPlaces (Y.setting yard.now) (Y.Pass.view pass.old).front (owed_by turns.old + 3 * length lines.now) }
+    requires places { HasPlaces (Y.setting yard.now) (Y.Pass.view pass.old).front (owed_by turns.old + 19 * length lines.now) }
     ensures of { Y.Pass.origin pass.new ≡ origin_of (Y.identity yard.now) (Y.setting yard.now) }
     ensures alone { IsAlone (Y.setting yard.now) (Y.Pass.view pass.new) }
     ensures turns { OnOk result (AreQuiet (Y.setting yard.now) turns.new) }
     ensures numbers { OnOk result (numbers_of turns.new ≡ numbers_of turns.old) }
-    ensures owed { OnOk result (length (Y.Pass.view pass.new).front + owed_by turns.new ≤ length (Y.Pass.view pass.old).front + owed_by turns.old + 3 * length lines.now) }
+    ensures owed { OnOk result (length (Y.Pass.view pass.new).front + owed_by turns.new ≤ length (Y.Pass.view pass.old).front + owed_by turns.old + 19 * length lines.now) }
     ensures game { OnOk result (game_at (Y.Pass.view pass.new).front turns.new false
         ≡ fold (takes_line (Y.setting yard.now) (numbers_of turns.old)) (game_at (Y.Pass.view pass.old).front turns.old false) lines.now) }
 {
@@ -96,12 +96,12 @@ fn play_lines<Y: Yard>(
     requires alone { IsAlone (Y.setting yard.now) (Y.Pass.view pass.old) }
     requires fresh { (Y.Pass.view pass.old).front ≡ [] }
     requires turns { AreOpening (Y.setting yard.now) lines.now turns.old }
-    requires places { HasPlaces (Y.setting yard.now) [] (3 * length lines.now) }
+    requires places { HasPlaces (Y.setting yard.now) [] (19 * length lines.now) }
     ensures of { Y.Pass.origin pass.new ≡ origin_of (Y.identity yard.now) (Y.setting yard.now) }
     ensures alone { IsAlone (Y.setting yard.now) (Y.Pass.view pass.new) }
     ensures numbers { OnOk result (numbers_of turns.new ≡ txns_of lines.now) }
     ensures ended { OnOk result (All HasEnded turns.new) }
-    ensures few { OnOk result (length (Y.Pass.view pass.new).front ≤ 3 * length lines.now) }
+    ensures few { OnOk result (length (Y.Pass.view pass.new).front ≤ 19 * length lines.now) }
     ensures game { OnOk result (game_at (Y.Pass.view pass.new).front turns.new false ≡ played (Y.setting yard.now) (txns_of lines.now) lines.now) }
 {
     take_lines(yard, pass, turns, lines)?;
@@ -121,12 +121,12 @@ fn play_trace<Y: Yard>(
     requires fresh { (Y.Pass.view pass.old).front ≡ [] }
     requires trees { trees ≡ (Y.setting yard.now).plan.trees }
     requires lines { All (IsOfTrace (Y.setting yard.now)) lines.now }
-    requires places { HasPlaces (Y.setting yard.now) [] (3 * length lines.now) }
+    requires places { HasPlaces (Y.setting yard.now) [] (19 * length lines.now) }
     ensures of { Y.Pass.origin pass.new ≡ origin_of (Y.identity yard.now) (Y.setting yard.now) }
     ensures alone { IsAlone (Y.setting yard.now) (Y.Pass.view pass.new) }
     ensures numbers { IfOk result (λ turns. numbers_of turns.items ≡ txns_of lines.now) }
     ensures ended { IfOk result (λ turns. All HasEnded turns.items) }
-    ensures few { OnOk result (length (Y.Pass.view pass.new).front ≤ 3 * length lines.now) }
+    ensures few { OnOk result (length (Y.Pass.view pass.new).front ≤ 19 * length lines.now) }
     ensures game { IfOk result (λ turns. game_at (Y.Pass.view pass.new).front turns.items false ≡ played (Y.setting yard.now) (txns_of lines.now) lines.now) }
 {
     let mut turns = turns::opening(alloc, lines, trees)?;

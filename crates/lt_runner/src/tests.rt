@@ -35,7 +35,7 @@ fn lines_behind_an_out_of_locks_are_dropped(rt: HostRuntime) -> Result<(), Fail>
     let text = transcript(rt.alloc(), trace, 7)?;
     assert_eq!(rt;
         text.as_slice(),
-        b"7 2 ask 0 \"a\" \"c\" granted\n8 2 free 0 \"a\" \"c\" 1\ntxn 1 done\ntxn 2 outoflocks 8 1\nend 2 0\n".as_slice()
+        b"7 2 ask 0 \"a\" \"c\" granted\n8 2 join 0 1 1\n9 2 free 0 \"a\" \"c\" 1\ntxn 1 done\ntxn 2 outoflocks 9 1\nend 3 0\n".as_slice()
     );
     Ok(())
 }

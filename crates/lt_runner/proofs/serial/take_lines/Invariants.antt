@@ -14,7 +14,7 @@ invariant-loop-line g l =
       alone : IsAlone setting (view l.pass);
       stand : AreQuiet setting l.turns;
       numbers : numbers_of l.turns ≡ numbers_of l.fn.turns;
-      owed : length (view l.pass).front + owed_by l.turns ≤ length (view l.fn.pass).front + owed_by l.fn.turns + 3 * l.line-index;
+      owed : length (view l.pass).front + owed_by l.turns ≤ length (view l.fn.pass).front + owed_by l.fn.turns + 19 * l.line-index;
       game : fold (takes_line setting (numbers_of l.fn.turns)) (game_at (view l.pass).front l.turns false) (drop l.line-index l.lines)
           ≡ fold (takes_line setting (numbers_of l.fn.turns)) (game_at (view l.fn.pass).front l.fn.turns false) l.lines;
     }
