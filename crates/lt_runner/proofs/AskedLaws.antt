@@ -1,5 +1,5 @@
 -- What an ask by a pass that has all the rights comes to.
-use Rattle.std.proofs.Common.{◌≡◌, ◌≢◌, ℕ, zero, suc, ◌+◌, ◌-◌, ◌*◌, ◌/◌, ◌<◌, ◌≤◌, List, [], ◌∷◌, ◌++◌, Bool, true, false, nat_lt, if◌then◌else◌, Ok, Err, length, refl, sym, ap, subst, ◌∙◌, arith, append_assoc, append-nil}
+use Rattle.std.proofs.Common.{◌≡◌, ◌≢◌, ℕ, zero, suc, ◌+◌, ◌-◌, ◌*◌, ◌/◌, ◌<◌, ◌≤◌, List, [], ◌∷◌, ◌++◌, Bool, true, false, nat_lt, if◌then◌else◌, Result, Ok, Err, length, refl, sym, ap, subst, ◌∙◌, arith, append_assoc, append-nil}
 use Rattle.std.proofs.lemmas.Bool.Decides.{nat_tests}
 use Rattle.lt_ranges.specs.Interval.{Interval}
 use Rattle.lt_seq.specs.declared.event.Deed.{Deed}
@@ -7,13 +7,15 @@ use Rattle.lt_seq.specs.declared.event.Deed.TheVariants.{Ask, Join}
 use Rattle.lt_seq.specs.declared.event.Reply.TheVariants.{Granted}
 use Rattle.lt_seq.specs.declared.event.Event.{Event}
 use Rattle.lt_seq.specs.declared.event.Receipt.{Receipt}
+use Rattle.lt_seq.specs.declared.fault.Fault.{Fault}
 use Rattle.lt_seq.specs.declared.fault.Fault.TheVariants.{OutOfLocks}
+use Rattle.lt_seq.proofs.YardLaws.{alone_ask_done}
 use Rattle.lt_seq.specs.Table.{Setting, used}
 use Rattle.lt_seq.specs.History.{after}
 use Rattle.lt_seq.specs.Questions.{receipt_after, events_of}
 use Rattle.lt_seq.specs.Passes.{numbers_from}
-use Rattle.lt_seq.specs.Alone.{AloneAskAnswers, AreJoinedAtOnce, IsAskedAtOnce, IsMade, IsRefused, HasReached}
-use Rattle.lt_seq.specs.Yard.{PassView, OneMore, IsOutOfLocks, place_after, event_after}
+use Rattle.lt_seq.specs.Alone.{AloneAskAnswers, AreJoinedAtOnce, IsAskedAtOnce, IsMade, IsRefused, HasReached, IsDoneOrOutOfLocks}
+use Rattle.lt_seq.specs.Yard.{PassView, OneMore, IsOutOfLocks, place_after, places_end, event_after}
 use Rattle.lt_history.specs.declared.outcome.Outcome.TheVariants.{OutOfLocks as StoppedAt}
 use Rattle.lt_runner.specs.TurnView.{Turn}
 use Rattle.lt_runner.specs.Attempt.{bar_of}
@@ -141,3 +143,14 @@ asked_stopped setting old new tree range turn place rows number small trees answ
         ∙ ap (λ (n : ℕ). ended_by setting (StoppedAt (place_after setting later) n) (step_at later turn)) (cause.used_is ∙ ap (λ (es : List Event). used (after setting es)) same)
         ∙ sym (on_false (room_at setting turn later) (asks_behind setting tree range turn later) (stops_at setting turn later) none)
         ∙ sym (asked_later setting tree range turn old.front full)
+
+-- and then the joins of all trees were made
+pub stopped_front : (setting : Setting) (old new : PassView) (tree : ℕ) (range : Interval) (txn place rows : ℕ) → old.number ≡ 0 →
+    AloneAskAnswers setting setting.plan.limit old new txn (Ask tree range Granted) (Err (OutOfLocks place rows)) → new.front ≡ joined_events setting txn old.front
+stopped_front setting old new tree range txn place rows number answers =
+    answers.answer.stays.front ∙ behind_all setting old answers.joined txn answers.joins number answers.chain answers.answer.cause.all
+
+-- it is never busy, and the history never full, where there are places
+pub never_refused : (setting : Setting) (old new : PassView) (txn : ℕ) (deed : Deed) (result : Result Receipt Fault) (fault : Fault) → AloneAskAnswers setting setting.plan.limit old new txn deed result → result ≡ Err fault →
+    place_after setting old.front + setting.plan.trees < places_end → IsDoneOrOutOfLocks (Err fault)
+never_refused setting old new txn deed result fault answers is room = subst IsDoneOrOutOfLocks is (alone_ask_done setting setting.plan.limit old new txn deed result answers room)

@@ -23,8 +23,6 @@ pub mod FollowLaws
 pub mod FitLaws
 pub mod EndLaws
 pub mod NoLockLaws
-pub mod PlayedLaws
-pub mod GrowthLaws
 pub mod RunLaws
 pub mod WholeLaws
 pub mod OrderLaws

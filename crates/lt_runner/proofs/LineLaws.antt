@@ -1,10 +1,10 @@
 -- What the scheduler does at a line, where no turn waits.
-use Rattle.std.proofs.Common.{◌≡◌, ℕ, ◌+◌, ◌<◌, ◌≤◌, List, [], ◌∷◌, ◌++◌, Bool, true, false, if◌then◌else◌, Option, Some, None, is_some, length, nat_lt, get_or, slice_set, zero, suc, nat_cmp, refl, sym, ap, subst, ◌∙◌, append-nil, append_assoc, map-append, map, arith}
+use Rattle.std.proofs.Common.{◌≡◌, ℕ, ◌+◌, ◌<◌, ◌≤◌, List, [], ◌∷◌, ◌++◌, Bool, true, false, if◌then◌else◌, Option, Some, None, is_some, length, nat_lt, get_or, slice_set, zero, suc, nat_cmp, refl, sym, ap, subst, ◌∙◌, append-nil, append_assoc, map, arith}
 use Rattle.std.specs.List.{All}
 use Rattle.std.specs.List.Sorted.{IsStrictlySortedBy}
 use Rattle.std.proofs.Math.Seq.{map-set_same}
 use Rattle.std.proofs.lemmas.List.Elements.{All-set}
-use Rattle.std.proofs.lemmas.List.{length-append, length-set, length-map, get_or-set_same, set-get_or}
+use Rattle.std.proofs.lemmas.List.{map-append, length-append, length-set, length-map, get_or-set_same, set-get_or}
 use Rattle.std.proofs.lemmas.List.Sums.{sum_by-set}
 use Rattle.lt_ranges.specs.Interval.{Interval}
 use Rattle.lt_seq.specs.declared.event.Deed.TheVariants.{Ask, Free}

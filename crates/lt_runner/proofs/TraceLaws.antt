@@ -1,5 +1,5 @@
 -- What a trace gives its runner.
-use Rattle.std.proofs.Common.{◌≡◌, ℕ, zero, suc, ◌+◌, ◌≤◌, ◌^◌, List, [], ◌∷◌, ◌++◌, Bool, true, false, not, Option, Some, None, nat_lt, if◌then◌else◌, length, refl, sym, ap, subst, ◌*◌, arith}
+use Rattle.std.proofs.Common.{◌≡◌, ℕ, zero, suc, ◌+◌, ◌≤◌, ◌^◌, List, [], ◌∷◌, ◌++◌, Bool, true, false, not, Option, Some, None, nat_lt, if◌then◌else◌, length, refl, sym, ap, subst, ◌*◌, ◌<◌, map, arith}
 use Rattle.std.specs.List.{All, AllByRecursion}
 use Rattle.std.specs.Option.{option_or}
 use Rattle.std.proofs.lemmas.Bool.Decides.{nat_tests}
@@ -16,7 +16,18 @@ use Rattle.lt_trace.specs.Trace.{TraceView}
 use Rattle.lt_trace.specs.Grammar.{txns_of, IsTrace, IsBody, AreFaultless, IsDeedForm, is_outside, has_long_key, is_backwards, trees_in, fault_of_deed, fault_of_turn, whole}
 use Rattle.lt_runner.specs.Serial.{plan_of, setting_of, most_of, most_events}
 use Rattle.lt_runner.specs.AtOnce.{IsPlain, IsOfTrace, HasPlaces}
-use Rattle.lt_runner.proofs.GrowthLaws.{AsksRange}
+use Rattle.lt_ranges.specs.Numbers.{is_in}
+use Rattle.lt_runner.proofs.OpeningLaws.{has_numbers}
+use Rattle.lt_ranges.specs.Interval.{IsInterval}
+
+-- The line asks for a range.
+abbrev pub AsksRange : LineDeed → Type 0
+AsksRange (Try tree range) = IsInterval range
+AsksRange (Lock tree range) = IsInterval range
+AsksRange End = Unit {0}
+AsksRange Abort = Unit {0}
+AsksRange (Escalate tree) = Unit {0}
+AsksRange Big = Unit {0}
 
 -- a row of the table of faults that does not apply
 not_first : (b : Bool) (fault : TraceFault) (rest : Option TraceFault) → (if b then Some fault else rest) ≡ None → b ≡ false

@@ -1,5 +1,5 @@
 //! One transaction's lines, by a pass that has all the rights.
-ghost use Rattle.std.specs.Prelude.{◌≡◌, ◌≤◌, ◌<◌, OnOk, length};
+ghost use Rattle.std.specs.Prelude.{◌≡◌, ◌+◌, ◌≤◌, ◌<◌, OnOk, length};
 ghost use Rattle.lt_seq.specs.Yard.{origin_of};
 ghost use Rattle.lt_runner.specs.Turn.{releases_by, releases_in, releases_from, reply_in};
 ghost use Rattle.lt_runner.specs.AtOnce.{IsAlone, IsAsk, IsQuiet, IsPlain, HasPlaces, Step, step_at, freed, ended_by, asked, most_joins, played_by, owed_in, owed};
@@ -152,7 +152,8 @@ fn ask<Y: Yard>(
             end(yard, pass, turn, Outcome::OutOfLocks { place, used })
         }
         Err(Fault::OutOfMemory) => Err(AllocError),
-        Err(Fault::Busy { .. } | Fault::HistoryFull { .. }) => unreachable!(),
+        Err(Fault::Busy { .. }) => unreachable!(),
+        Err(Fault::HistoryFull { .. }) => unreachable!(),
     }
 }
 
