@@ -12,6 +12,7 @@ pub mod Growing
 pub mod TreeParts
 pub mod RowsAscend
 pub mod HangsAside
+pub mod FreePlaces
 pub mod Reached
 -- deeds
 pub mod Changes

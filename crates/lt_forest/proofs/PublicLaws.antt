@@ -32,7 +32,7 @@ use Rattle.lt_forest.proofs.PartGaps.{on_part_gap, top_gap}
 use Rattle.lt_forest.specs.Views.{IsIn}
 use Rattle.lt_forest.specs.Trees.{in_order}
 use Rattle.lt_forest.specs.Cuts.{bare, AllAside}
-use Rattle.lt_forest.specs.LawsOfSearches.{PartIsLawful, HeldPartIsLawful, LawfulPartAscends, LawfulListSplits, WidenedIsPart, WidenedIsClosed, HeldWidenedIsPart, HeldWidenedIsClosed, NoneHangsBetween, NoneHangsThere, ReachedAreNotAside, ClosedIsVisited, HangsNameOthers, HeldHangsNameOthers, CutRowsAreNamed, HeldRowsAreNamed, GapRowsTreeMode, NoneOfPoolIsReadBack, EmptyTreeIsRead, AsideIsClosed}
+use Rattle.lt_forest.specs.LawsOfSearches.{PartIsLawful, HeldPartIsLawful, LawfulPartAscends, LawfulListSplits, WidenedIsPart, WidenedIsClosed, HeldWidenedIsPart, HeldWidenedIsClosed, NoneHangsBetween, NoneHangsThere, ReachedAreNotAside, ClosedIsVisited, HangsNameOthers, HeldHangsNameOthers, CutRowsAreNamed, HeldRowsAreNamed, GapRowsTreeMode, NoneOfPoolIsReadBack, EmptyTreeIsRead, AsideIsClosed, OverlappingRunHangsNone, FreePlaceIsThere}
 use Rattle.lt_forest.specs.LawsOfSides.{SideIsPart, HeldSideIsPart, SideAddsTheRow, SideIsClosed, SideLoosens, SideHasSameRows, SideDecides, SideShowsGranted, SideShowsHeld, SideShowsFree, SideShowsWho, SameOrderLays, TurnLaysAtAnchor, TurnLaysAtRow, SideIsLawful}
 use Rattle.lt_seq.specs.Pairs.{IsLawful}
 use Rattle.lt_forest.proofs.RowsAscend.{items_ascend}
@@ -49,6 +49,7 @@ use Rattle.lt_forest.proofs.MergedRuns.{may_merge, merged_run, put_in}
 use Rattle.lt_forest.proofs.LeftOutRows.{none_left_out, one_kept, one_left_out, left_out_looser, left_out_freed}
 use Rattle.lt_forest.proofs.GrantedRuns.{merged_granted}
 use Rattle.std.specs.Prelude.{None}
+use Rattle.lt_forest.proofs.FreePlaces.{run_none, place_free}
 
 -- gaps_of_rows
 pub rows_have_one_gap : RowsHaveOneGap
@@ -453,6 +454,12 @@ closed_is_visited c top cut range closed =
 
 pub aside_is_closed : AsideIsClosed
 aside_is_closed c top cut range in_gap aside = record { in_gap = in_gap; aside = subst (AllAside range) (sym (ends-hanging c cut None None)) aside }
+
+pub overlapping_run_hangs_none : OverlappingRunHangsNone
+overlapping_run_hangs_none c top cut range ahead r run behind lawful closed = run_none c cut range ahead r run behind lawful closed.aside
+
+pub free_place_is_there : FreePlaceIsThere
+free_place_is_there c top cut range ahead behind interval closed = place_free c cut range ahead behind interval closed.aside
 
 -- rows_that_are_named
 pub hangs_name_others : HangsNameOthers

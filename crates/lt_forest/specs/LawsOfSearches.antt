@@ -1,6 +1,6 @@
 -- What a search relies on as it gathers a part. Where a law speaks of any rows c whose cut has lawful pairs, it serves for the true
 -- rows, by PartIsLawful, and for what a pass shows, by HeldPartIsLawful.
-use Rattle.std.specs.Prelude.{◌≡◌, ◌⊎◌, ◌↔◌, ℕ, ◌+◌, ◌<◌, List, [], ◌∷◌, ◌++◌, true, None, Bool}
+use Rattle.std.specs.Prelude.{◌≡◌, ◌⊎◌, ◌↔◌, ℕ, ◌+◌, ◌<◌, List, [], ◌∷◌, ◌++◌, true, None, Bool, map}
 use Rattle.lt_ranges.specs.Interval.{Interval, IsInterval, overlap}
 use Rattle.lt_seq.specs.declared.event.Pair.{Pair}
 use Rattle.lt_seq.specs.declared.event.Mode.{Mode}
@@ -9,17 +9,18 @@ use Rattle.lt_seq.specs.Sound.{AllSound}
 use Rattle.lt_seq.specs.Table.{TreeState, tree_at}
 use Rattle.lt_forest.specs.declared.part.PartRow.{PartRow}
 use Rattle.lt_forest.specs.Counts.{times}
+use Rattle.lt_forest.specs.Pairs.{Has}
 use Rattle.lt_forest.specs.Bounds.{Gap, IsAbove, IsBelow}
 use Rattle.lt_forest.specs.Trees.{Nodes, in_order, pairs_in}
 use Rattle.lt_forest.specs.Cuts.{Cut, Shows, bare, IsRow, End, ends, HasEnd, IsAside, AllAside}
 use Rattle.lt_forest.specs.Visits.{IsVisited, Reaches}
-use Rattle.lt_forest.specs.Parts.{rows_of, hangs_of, hanging}
+use Rattle.lt_forest.specs.Parts.{rows_of, hangs_of, row_pair, hanging}
 use Rattle.lt_forest.specs.Items.{items, first_end, last_end, Ascends}
 use Rattle.lt_forest.specs.Forest.{Forest, chain, IsTree, IsForest, GapIn}
 use Rattle.lt_forest.specs.Plans.{Top, top_link, IsInGap, IsSeen, IsPart, IsClosedFor}
 use Rattle.lt_forest.specs.Links.{Slot, row_with, link_in, IsLinkOf, Leads}
 use Rattle.lt_forest.specs.Widenings.{Widens}
-use Rattle.lt_forest.specs.Places.{HangsAt, SplitsAt}
+use Rattle.lt_forest.specs.Places.{HangsAt, SplitsAt, RunHangsNone, PlaceIsFree}
 use Rattle.lt_forest.specs.Views.{IsIn, Agrees, HoldsPart}
 
 -- The rows of a part ascend,
@@ -95,6 +96,20 @@ NoneHangsThere =
     (c : Nodes) (top : Top) (cut : Cut) (range : Interval) (ahead : List PartRow) (l : ℕ) (behind : List PartRow)
     → IsInterval range → IsClosedFor range top c cut → HangsAt (rows_of c cut) (hangs_of cut) ahead l behind
     → IsAbove (last_end ahead None) range.left → IsBelow (first_end behind None) range.right → l ≡ 0
+
+-- So the hangs of a closed part are those that a run of rows that overlap asks of them to become one,
+abbrev pub OverlappingRunHangsNone : Type 0
+OverlappingRunHangsNone =
+    (c : Nodes) (top : Top) (cut : Cut) (range : Interval) (ahead : List PartRow) (r : PartRow) (run behind : List PartRow)
+    → IsLawful (pairs_in c (bare cut)) → IsClosedFor range top c cut → rows_of c cut ≡ ahead ++ (r ∷ run ++ behind)
+    → ((p : Pair) → Has p (map row_pair (r ∷ run)) → overlap p.range range ≡ true) → RunHangsNone (hangs_of cut) ahead run
+
+-- or a row that is put in.
+abbrev pub FreePlaceIsThere : Type 0
+FreePlaceIsThere =
+    (c : Nodes) (top : Top) (cut : Cut) (range : Interval) (ahead behind : List PartRow)
+    → IsInterval range → IsClosedFor range top c cut → rows_of c cut ≡ ahead ++ behind
+    → IsAbove (last_end ahead None) range.left → IsBelow (first_end behind None) range.right → PlaceIsFree (hangs_of cut) ahead
 
 -- A search reaches exactly the hangs that aren't aside,
 abbrev pub ReachedAreNotAside : Type 0

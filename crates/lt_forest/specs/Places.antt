@@ -1,5 +1,5 @@
 -- Places in a part that is read in key order.
-use Rattle.std.specs.Prelude.{◌≡◌, ℕ, List, ◌∷◌, ◌++◌, length, true}
+use Rattle.std.specs.Prelude.{◌≡◌, ℕ, ◌+◌, List, ◌∷◌, ◌++◌, length, replicate, true}
 use Rattle.lt_ranges.specs.Interval.{Interval, before, overlap}
 use Rattle.lt_seq.specs.declared.event.Pair.{Pair}
 use Rattle.lt_forest.specs.declared.part.PartRow.{PartRow}
@@ -22,3 +22,17 @@ pub record SplitsAt (range : Interval) (pairs : List Pair) : Type 0 where
   pub ends_before : (p : Pair) → Has p ahead → before p.range range ≡ true
   pub overlaps : (p : Pair) → Has p over → overlap p.range range ≡ true
   pub begins_behind : (p : Pair) → Has p behind → before range p.range ≡ true
+
+-- behind these rows stands a row, and between it and the rows of the run, and within the run, hangs nothing
+pub record RunHangsNone (hangs : List ℕ) (ahead : List PartRow) (run : List PartRow) : Type 0 where
+  pub links_ahead : List ℕ
+  pub links_behind : List ℕ
+  pub hangs_are : hangs ≡ links_ahead ++ (replicate (length run) 0 ++ links_behind)
+  pub place : length links_ahead ≡ length ahead + 1
+
+-- nothing hangs behind these rows
+pub record PlaceIsFree (hangs : List ℕ) (ahead : List PartRow) : Type 0 where
+  pub links_ahead : List ℕ
+  pub links_behind : List ℕ
+  pub hangs_are : hangs ≡ links_ahead ++ 0 ∷ links_behind
+  pub place : length links_ahead ≡ length ahead

@@ -1,13 +1,38 @@
 //! Laws of the forest. Each function's contract is a law over the definitions; the bodies are empty.
-ghost use Rattle.lt_forest.specs.LawsOfGaps.{RowsHaveOneGap, LeftChildsGap, RightChildsGap, SeenIsWithin, TopIsSeen, LeftIsSeen, RightIsSeen};
-ghost use Rattle.lt_forest.specs.LawsOfParts.{TreesAreOrdered, ReplacedIsInOrder, VisitLeavesOutNone, VisitedIsClosed, ClosedPartHasAll, PartShowsPairs, WholePartShowsAll, EmptyTreeHasNone, PartIsReplaced, PartIsLaidForDeed, PartIsLaidAgain, TopRowStays};
-ghost use Rattle.lt_forest.specs.LawsOfBuffers.{ChainShowsBuffer, FrontIsGranted, BufferBegins, BufferGrows, BufferEnds, BufferIsDropped, OwnerIsAlone};
-ghost use Rattle.lt_forest.specs.LawsOfRows.{RowsAddUp, VacantIsThere, OpeningIsForest, LinksNameFurther, NoneIsNamedTwice, NoneLeadsBack, NoneOfPoolLeadsBack, PoolIsApart, GapRowsAreLinked, PartRowsAreLinked, RunRowsAreLinked, PoolRowsAreLinked, TreeRowsAreFurther, PoolRowsAreFurther, RunRowsAreFurther, TakenRowsAreFurther, PartRowsAreFurther, ForestReadsItsRows};
-ghost use Rattle.lt_forest.specs.LawsOfOrder.{EndsAreHanging, EndsAreBetween, SameOrderKeeps, LeavingOutLoosens, MergingLoosens, PartWidens, PlacedShows, MiddleDecides, OwnBecomeOne, SpanMayMerge, MergedRunLoosens, PutInLoosens, RowsShowPairs, NoneIsLeftOut, OneIsKept, OneIsLeftOut, LeftOutLoosens, LeftOutIsFreed, MergedRunIsGranted};
-ghost use Rattle.lt_forest.specs.LawsOfViews.{TopIsRead, LeftIsRead, RightIsRead, ReadLinksNameFurther, NoneIsReadTwice, NoneIsReadBack, PoolIsReadApart, VacantIsRead, HeldPartShowsPairs, HeldPartHasAll, HeldWholeShowsAll, HeldChainShowsBuffer, PlanServesDeed, PlanServesLayout, PlanServesReplacement, PlanBegins, PlanAppends, PlanEndsBuffer, PlanDropsBuffer, ReadRunIsFurther, ReadPoolIsFurther, HeldPartIsFurther};
-ghost use Rattle.lt_forest.specs.LawsOfPlans.{OtherAnchorsStay, PlanKeepsAnchors, FirstKeepsAnchors, EndKeepsAnchors, DropKeepsAnchors, PartGapIsRead, TopKeepsGap, GivenAreNamedWithin, ChainIsNamedWithin, GivenAreNamedByHeld, ChainIsNamedByHeld};
-ghost use Rattle.lt_forest.specs.LawsOfSearches.{PartIsLawful, HeldPartIsLawful, LawfulPartAscends, LawfulListSplits, WidenedIsPart, WidenedIsClosed, HeldWidenedIsPart, HeldWidenedIsClosed, NoneHangsBetween, NoneHangsThere, ReachedAreNotAside, ClosedIsVisited, HangsNameOthers, HeldHangsNameOthers, CutRowsAreNamed, HeldRowsAreNamed, GapRowsTreeMode, NoneOfPoolIsReadBack, EmptyTreeIsRead, AsideIsClosed};
-ghost use Rattle.lt_forest.specs.LawsOfSides.{SideIsPart, HeldSideIsPart, SideAddsTheRow, SideIsClosed, SideLoosens, SideHasSameRows, SideDecides, SideShowsGranted, SideShowsHeld, SideShowsFree, SideShowsWho, SameOrderLays, TurnLaysAtAnchor, TurnLaysAtRow, SideIsLawful};
+ghost use Rattle.lt_forest.specs.LawsOfGaps.{RowsHaveOneGap, LeftChildsGap, RightChildsGap, SeenIsWithin, TopIsSeen};
+ghost use Rattle.lt_forest.specs.LawsOfGaps.{LeftIsSeen, RightIsSeen};
+ghost use Rattle.lt_forest.specs.LawsOfParts.{TreesAreOrdered, ReplacedIsInOrder, VisitLeavesOutNone, VisitedIsClosed};
+ghost use Rattle.lt_forest.specs.LawsOfParts.{ClosedPartHasAll, PartShowsPairs, WholePartShowsAll, EmptyTreeHasNone};
+ghost use Rattle.lt_forest.specs.LawsOfParts.{PartIsReplaced, PartIsLaidForDeed, PartIsLaidAgain, TopRowStays};
+ghost use Rattle.lt_forest.specs.LawsOfBuffers.{ChainShowsBuffer, FrontIsGranted, BufferBegins, BufferGrows, BufferEnds};
+ghost use Rattle.lt_forest.specs.LawsOfBuffers.{BufferIsDropped, OwnerIsAlone};
+ghost use Rattle.lt_forest.specs.LawsOfRows.{RowsAddUp, VacantIsThere, OpeningIsForest, LinksNameFurther, NoneIsNamedTwice};
+ghost use Rattle.lt_forest.specs.LawsOfRows.{NoneLeadsBack, NoneOfPoolLeadsBack, PoolIsApart, GapRowsAreLinked};
+ghost use Rattle.lt_forest.specs.LawsOfRows.{PartRowsAreLinked, RunRowsAreLinked, PoolRowsAreLinked, TreeRowsAreFurther};
+ghost use Rattle.lt_forest.specs.LawsOfRows.{PoolRowsAreFurther, RunRowsAreFurther, TakenRowsAreFurther, PartRowsAreFurther};
+ghost use Rattle.lt_forest.specs.LawsOfRows.{ForestReadsItsRows};
+ghost use Rattle.lt_forest.specs.LawsOfOrder.{EndsAreHanging, EndsAreBetween, SameOrderKeeps, LeavingOutLoosens};
+ghost use Rattle.lt_forest.specs.LawsOfOrder.{MergingLoosens, PartWidens, PlacedShows, MiddleDecides, OwnBecomeOne};
+ghost use Rattle.lt_forest.specs.LawsOfOrder.{SpanMayMerge, MergedRunLoosens, PutInLoosens, RowsShowPairs, NoneIsLeftOut};
+ghost use Rattle.lt_forest.specs.LawsOfOrder.{OneIsKept, OneIsLeftOut, LeftOutLoosens, LeftOutIsFreed, MergedRunIsGranted};
+ghost use Rattle.lt_forest.specs.LawsOfViews.{TopIsRead, LeftIsRead, RightIsRead, ReadLinksNameFurther, NoneIsReadTwice};
+ghost use Rattle.lt_forest.specs.LawsOfViews.{NoneIsReadBack, PoolIsReadApart, VacantIsRead, HeldPartShowsPairs};
+ghost use Rattle.lt_forest.specs.LawsOfViews.{HeldPartHasAll, HeldWholeShowsAll, HeldChainShowsBuffer, PlanServesDeed};
+ghost use Rattle.lt_forest.specs.LawsOfViews.{PlanServesLayout, PlanServesReplacement, PlanBegins, PlanAppends};
+ghost use Rattle.lt_forest.specs.LawsOfViews.{PlanEndsBuffer, PlanDropsBuffer, ReadRunIsFurther, ReadPoolIsFurther};
+ghost use Rattle.lt_forest.specs.LawsOfViews.{HeldPartIsFurther};
+ghost use Rattle.lt_forest.specs.LawsOfPlans.{OtherAnchorsStay, PlanKeepsAnchors, FirstKeepsAnchors, EndKeepsAnchors};
+ghost use Rattle.lt_forest.specs.LawsOfPlans.{DropKeepsAnchors, PartGapIsRead, TopKeepsGap, GivenAreNamedWithin};
+ghost use Rattle.lt_forest.specs.LawsOfPlans.{ChainIsNamedWithin, GivenAreNamedByHeld, ChainIsNamedByHeld};
+ghost use Rattle.lt_forest.specs.LawsOfSearches.{PartIsLawful, HeldPartIsLawful, LawfulPartAscends, LawfulListSplits};
+ghost use Rattle.lt_forest.specs.LawsOfSearches.{WidenedIsPart, WidenedIsClosed, HeldWidenedIsPart, HeldWidenedIsClosed};
+ghost use Rattle.lt_forest.specs.LawsOfSearches.{NoneHangsBetween, NoneHangsThere, ReachedAreNotAside, ClosedIsVisited};
+ghost use Rattle.lt_forest.specs.LawsOfSearches.{HangsNameOthers, HeldHangsNameOthers, CutRowsAreNamed, HeldRowsAreNamed};
+ghost use Rattle.lt_forest.specs.LawsOfSearches.{GapRowsTreeMode, NoneOfPoolIsReadBack, EmptyTreeIsRead, AsideIsClosed};
+ghost use Rattle.lt_forest.specs.LawsOfSearches.{OverlappingRunHangsNone, FreePlaceIsThere};
+ghost use Rattle.lt_forest.specs.LawsOfSides.{SideIsPart, HeldSideIsPart, SideAddsTheRow, SideIsClosed, SideLoosens};
+ghost use Rattle.lt_forest.specs.LawsOfSides.{SideHasSameRows, SideDecides, SideShowsGranted, SideShowsHeld, SideShowsFree};
+ghost use Rattle.lt_forest.specs.LawsOfSides.{SideShowsWho, SameOrderLays, TurnLaysAtAnchor, TurnLaysAtRow, SideIsLawful};
 
 /// Every row of a search tree has one gap, and a child's gap is its parent's, cut at the parent's range.
 pub fn gaps_of_rows()
@@ -232,6 +257,8 @@ pub fn hangs_of_closed_parts()
     ensures reached { ReachedAreNotAside }
     ensures visited { ClosedIsVisited }
     ensures aside { AsideIsClosed }
+    ensures run { OverlappingRunHangsNone }
+    ensures place { FreePlaceIsThere }
 {}
 
 /// What hangs below a part is a further row that isn't of the part, and each row of a part but its uppermost is named by a link of
