@@ -47,6 +47,7 @@ pub mod RunLaws
 pub mod MergedRuns
 pub mod GrantedRuns
 pub mod LeftOutRows
+pub mod CountedRows
 pub mod WidenLaws
 pub mod LayoutLaws
 pub mod RotationLaws

@@ -4,7 +4,7 @@ use Rattle.lt_forest.specs.LawsOfGaps.{RowsHaveOneGap, LeftChildsGap, RightChild
 use Rattle.lt_forest.specs.LawsOfParts.{TreesAreOrdered, ReplacedIsInOrder, VisitLeavesOutNone, VisitedIsClosed, ClosedPartHasAll, PartShowsPairs, WholePartShowsAll, EmptyTreeHasNone, PartIsReplaced, PartIsLaidForDeed, PartIsLaidAgain, TopRowStays}
 use Rattle.lt_forest.specs.LawsOfBuffers.{ChainShowsBuffer, FrontIsGranted, BufferBegins, BufferGrows, BufferEnds, BufferIsDropped, OwnerIsAlone}
 use Rattle.lt_forest.specs.LawsOfRows.{RowsAddUp, VacantIsThere, OpeningIsForest, LinksNameFurther, NoneIsNamedTwice, NoneLeadsBack, NoneOfPoolLeadsBack, PoolIsApart, GapRowsAreLinked, PartRowsAreLinked, RunRowsAreLinked, PoolRowsAreLinked, TreeRowsAreFurther, PoolRowsAreFurther, RunRowsAreFurther, TakenRowsAreFurther, PartRowsAreFurther, ForestReadsItsRows}
-use Rattle.lt_forest.specs.LawsOfOrder.{EndsAreHanging, EndsAreBetween, SameOrderKeeps, LeavingOutLoosens, MergingLoosens, PartWidens, PlacedShows, MiddleDecides, OwnBecomeOne, SpanMayMerge, MergedRunLoosens, PutInLoosens, RowsShowPairs, NoneIsLeftOut, OneIsKept, OneIsLeftOut, LeftOutLoosens, LeftOutIsFreed, MergedRunIsGranted}
+use Rattle.lt_forest.specs.LawsOfOrder.{EndsAreHanging, EndsAreBetween, SameOrderKeeps, LeavingOutLoosens, MergingLoosens, PartWidens, PlacedShows, MiddleDecides, OwnBecomeOne, SpanMayMerge, MergedRunLoosens, PutInLoosens, RowsShowPairs, NoneIsLeftOut, OneIsKept, OneIsLeftOut, LeftOutLoosens, LeftOutIsFreed, MergedRunIsGranted, MergedRunKeepsRows, PutInKeepsRows, LeftOutKeepsRows}
 use Rattle.lt_forest.specs.LawsOfViews.{TopIsRead, LeftIsRead, RightIsRead, ReadLinksNameFurther, NoneIsReadTwice, NoneIsReadBack, PoolIsReadApart, VacantIsRead, HeldPartShowsPairs, HeldPartHasAll, HeldWholeShowsAll, HeldChainShowsBuffer, PlanServesDeed, PlanServesLayout, PlanServesReplacement, PlanBegins, PlanAppends, PlanEndsBuffer, PlanDropsBuffer, ReadRunIsFurther, ReadPoolIsFurther, HeldPartIsFurther}
 use Rattle.lt_forest.specs.LawsOfPlans.{OtherAnchorsStay, PlanKeepsAnchors, FirstKeepsAnchors, EndKeepsAnchors, DropKeepsAnchors, PartGapIsRead, TopKeepsGap, GivenAreNamedWithin, ChainIsNamedWithin, GivenAreNamedByHeld, ChainIsNamedByHeld}
 use Rattle.lt_forest.proofs.GapLaws.{gap_left, gap_right, has_is, is_has, left_placed, right_placed, row_gap, top_placed, placed_tree}
@@ -50,6 +50,7 @@ use Rattle.lt_forest.proofs.LeftOutRows.{none_left_out, one_kept, one_left_out, 
 use Rattle.lt_forest.proofs.GrantedRuns.{merged_granted}
 use Rattle.std.specs.Prelude.{None}
 use Rattle.lt_forest.proofs.FreePlaces.{run_none, place_free}
+use Rattle.lt_forest.proofs.CountedRows.{merged_rows, put_in_rows, left_out_rows}
 
 -- gaps_of_rows
 pub rows_have_one_gap : RowsHaveOneGap
@@ -583,6 +584,12 @@ rows_show_pairs c cut =
 pub merged_run_is_granted : MergedRunIsGranted
 merged_run_is_granted = merged_granted
 
+pub merged_run_keeps_rows : MergedRunKeepsRows
+merged_run_keeps_rows = merged_rows
+
+pub put_in_keeps_rows : PutInKeepsRows
+put_in_keeps_rows = put_in_rows
+
 -- rows_that_are_left_out
 pub none_is_left_out : NoneIsLeftOut
 none_is_left_out = none_left_out
@@ -598,3 +605,6 @@ left_out_loosens = left_out_looser
 
 pub left_out_is_freed : LeftOutIsFreed
 left_out_is_freed = left_out_freed
+
+pub left_out_keeps_rows : LeftOutKeepsRows
+left_out_keeps_rows = left_out_rows

@@ -1,5 +1,5 @@
 -- What is true of parts in key order, so that a plan can be made from its rows and hangs alone.
-use Rattle.std.specs.Prelude.{◌≡◌, ℕ, ◌+◌, List, [], ◌∷◌, ◌++◌, map, length, replicate, None, Bool, true, false, not, ◌⊎◌}
+use Rattle.std.specs.Prelude.{◌≡◌, ℕ, ◌+◌, List, [], ◌∷◌, ◌++◌, map, filter, length, replicate, None, Bool, true, false, not, ◌⊎◌}
 use Rattle.lt_ranges.specs.Interval.{Interval, IsInterval, before}
 use Rattle.lt_seq.specs.declared.event.Pair.{Pair}
 use Rattle.lt_seq.specs.Pairs.{IsLawful, is_own, others, freed, count_freed, span, granted}
@@ -9,7 +9,7 @@ use Rattle.lt_forest.specs.declared.part.Placed.{Placed}
 use Rattle.lt_forest.specs.Bounds.{Bound, IsAbove, IsBelow}
 use Rattle.lt_forest.specs.Trees.{Nodes, pairs_in}
 use Rattle.lt_forest.specs.Cuts.{Cut, Shows, bare, ends, Looser, AllAside}
-use Rattle.lt_forest.specs.Parts.{rows_of, hangs_of, row_pair, hanging}
+use Rattle.lt_forest.specs.Parts.{rows_of, hangs_of, row_pair, numbers, hanging}
 use Rattle.lt_forest.specs.Items.{Item, items, rows_only, first_end, last_end, between, sift, LeavesOut, Ascends, MayMerge}
 use Rattle.lt_forest.specs.Layouts.{IsLaid, HoldsPlaced}
 use Rattle.lt_forest.specs.Plans.{Top, IsClosedFor, SameRows}
@@ -108,6 +108,26 @@ PutInLoosens =
     → rows_of c cut ≡ ahead ++ behind → hangs_of cut ≡ ls ++ 0 ∷ ms → length ls ≡ length ahead
     → rows_of d new ≡ ahead ++ one ∷ behind → hangs_of new ≡ ls ++ 0 ∷ 0 ∷ ms
     → Looser (ends c cut None None) (ends d new None None)
+
+-- Each row stands in the new part or is given: the rows of a run that become one but for the first, in whose place the one stands,
+abbrev pub MergedRunKeepsRows : Type 0
+MergedRunKeepsRows =
+    (c d : Nodes) (cut new : Cut) (ahead : List PartRow) (r : PartRow) (run behind : List PartRow) (one : PartRow)
+    → rows_of c cut ≡ ahead ++ (r ∷ run ++ behind) → rows_of d new ≡ ahead ++ one ∷ behind → one.row ≡ r.row
+    → SameRows cut new [] (numbers run)
+
+-- the row that is put in, which is taken from the pool,
+abbrev pub PutInKeepsRows : Type 0
+PutInKeepsRows =
+    (c d : Nodes) (cut new : Cut) (ahead behind : List PartRow) (one : PartRow)
+    → rows_of c cut ≡ ahead ++ behind → rows_of d new ≡ ahead ++ one ∷ behind → SameRows cut new (one.row ∷ []) []
+
+-- and those that are left out.
+abbrev pub LeftOutKeepsRows : Type 0
+LeftOutKeepsRows =
+    (keep : PartRow → Bool) (c d : Nodes) (cut new : Cut)
+    → LeavesOut keep (rows_of c cut) (hangs_of cut) (rows_of d new) (hangs_of new)
+    → SameRows cut new [] (numbers (filter (λ r. not (keep r)) (rows_of c cut)))
 
 -- the pairs of a cut are those of its rows
 abbrev pub RowsShowPairs : Type 0

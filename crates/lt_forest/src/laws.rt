@@ -12,6 +12,7 @@ ghost use Rattle.lt_forest.specs.LawsOfRows.{PartRowsAreLinked, RunRowsAreLinked
 ghost use Rattle.lt_forest.specs.LawsOfRows.{PoolRowsAreFurther, RunRowsAreFurther, TakenRowsAreFurther, PartRowsAreFurther};
 ghost use Rattle.lt_forest.specs.LawsOfRows.{ForestReadsItsRows};
 ghost use Rattle.lt_forest.specs.LawsOfOrder.{EndsAreHanging, EndsAreBetween, SameOrderKeeps, LeavingOutLoosens};
+ghost use Rattle.lt_forest.specs.LawsOfOrder.{MergedRunKeepsRows, PutInKeepsRows, LeftOutKeepsRows};
 ghost use Rattle.lt_forest.specs.LawsOfOrder.{MergingLoosens, PartWidens, PlacedShows, MiddleDecides, OwnBecomeOne};
 ghost use Rattle.lt_forest.specs.LawsOfOrder.{SpanMayMerge, MergedRunLoosens, PutInLoosens, RowsShowPairs, NoneIsLeftOut};
 ghost use Rattle.lt_forest.specs.LawsOfOrder.{OneIsKept, OneIsLeftOut, LeftOutLoosens, LeftOutIsFreed, MergedRunIsGranted};
@@ -49,14 +50,15 @@ pub fn gaps_on_the_way()
     ensures right { RightIsSeen }
 {}
 
-/// The search trees of a forest are in order, since their pairs are those of a sound table. A tree in which a subtree is
-/// replaced stays in order, where the new one fits between what stands beside it and hangs below it.
+/// The search trees of a forest are in order, since their pairs are those of a sound table. A tree in which a subtree
+/// is replaced stays in order, where the new one fits between what stands beside it and hangs below it.
 pub fn order_of_trees()
     ensures forest { TreesAreOrdered }
     ensures replaced { ReplacedIsInOrder }
 {}
 
-/// What a search for a range leaves out overlaps nothing: a closed part has each pair of its tree that overlaps the range.
+/// What a search for a range leaves out overlaps nothing: a closed part has each pair of its tree that overlaps the
+/// range.
 pub fn closed_parts()
     ensures visited { VisitLeavesOutNone }
     ensures closed { VisitedIsClosed }
@@ -66,19 +68,21 @@ pub fn closed_parts()
     ensures empty { EmptyTreeHasNone }
 {}
 
-/// A part may be laid anew with any ranges that ascend, stay in the gap and stay between what hangs: it is a forest again. Its
-/// tree's pairs are the new part's and those that the old part didn't show, and all other rows keep their gaps.
+/// A part may be laid anew with any ranges that ascend, stay in the gap and stay between what hangs: it is a forest
+/// again. Its tree's pairs are the new part's and those that the old part didn't show, and all other rows keep their
+/// gaps.
 pub fn part_is_replaced()
     ensures { PartIsReplaced }
 {}
 
-/// A closed part may be laid anew for an ask that is granted or held, a free, a question who holds and a join: the forest is
-/// one of the table after it, with the table's replies, and all other rows keep their gaps.
+/// A closed part may be laid anew for an ask that is granted or held, a free, a question who holds and a join: the
+/// forest is one of the table after it, with the table's replies, and all other rows keep their gaps.
 pub fn part_laid_for_a_deed()
     ensures { PartIsLaidForDeed }
 {}
 
-/// A part may be laid anew with the same pairs: the forest is one of the same table, and all other rows keep their gaps.
+/// A part may be laid anew with the same pairs: the forest is one of the same table, and all other rows keep their
+/// gaps.
 pub fn part_laid_again()
     ensures { PartIsLaidAgain }
 {}
@@ -142,8 +146,8 @@ pub fn parts_in_key_order()
     ensures same { SameOrderKeeps }
 {}
 
-/// No bound gets tighter where rows are left out, or a run of them becomes one. A part may be widened by the top row of what
-/// hangs, and rows that hold what was laid out show it.
+/// No bound gets tighter where rows are left out, or a run of them becomes one. A part may be widened by the top row of
+/// what hangs, and rows that hold what was laid out show it.
 pub fn plans_in_key_order()
     ensures left_out { LeavingOutLoosens }
     ensures merged { MergingLoosens }
@@ -151,8 +155,8 @@ pub fn plans_in_key_order()
     ensures placed { PlacedShows }
 {}
 
-/// What an ask or a free makes of a tree's pairs is decided by those between all that end before its range and all that begin
-/// behind it.
+/// What an ask or a free makes of a tree's pairs is decided by those between all that end before its range and all that
+/// begin behind it.
 pub fn steps_on_a_part()
     ensures middle { MiddleDecides }
     ensures own { OwnBecomeOne }
@@ -178,8 +182,8 @@ pub fn pairs_that_are_read()
     ensures chain { HeldChainShowsBuffer }
 {}
 
-/// What a plan owes for a deed in Tree mode, for a change of layout, or for any ranges that fit, is read off what its pass
-/// holds.
+/// What a plan owes for a deed in Tree mode, for a change of layout, or for any ranges that fit, is read off what its
+/// pass holds.
 pub fn plans_for_trees()
     ensures deed { PlanServesDeed }
     ensures layout { PlanServesLayout }
@@ -194,8 +198,8 @@ pub fn plans_for_buffers()
     ensures dropped { PlanDropsBuffer }
 {}
 
-/// The rows of a tree, of the pool, of a run along a buffer or from the pool's anchor, and of a part are further rows: so they
-/// are no anchors.
+/// The rows of a tree, of the pool, of a run along a buffer or from the pool's anchor, and of a part are further rows:
+/// so they are no anchors.
 pub fn further_rows()
     ensures tree { TreeRowsAreFurther }
     ensures pool { PoolRowsAreFurther }
@@ -225,15 +229,15 @@ pub fn anchors_of_other_trees()
     ensures dropped { DropKeepsAnchors }
 {}
 
-/// The gaps that the images of a plan give to the rows of a new part are those that its rows will give, and the row from which
-/// it hangs keeps the gap that was seen for it.
+/// The gaps that the images of a plan give to the rows of a new part are those that its rows will give, and the row
+/// from which it hangs keeps the gap that was seen for it.
 pub fn gaps_of_a_new_part()
     ensures read { PartGapIsRead }
     ensures top { TopKeepsGap }
 {}
 
-/// The rows of a part ascend, and so do those of a part that a pass holds, also as one list with what hangs. A lawful list splits
-/// at any range.
+/// The rows of a part ascend, and so do those of a part that a pass holds, also as one list with what hangs. A lawful
+/// list splits at any range.
 pub fn rows_of_a_part()
     ensures part { PartIsLawful }
     ensures held { HeldPartIsLawful }
@@ -241,7 +245,8 @@ pub fn rows_of_a_part()
     ensures splits { LawfulListSplits }
 {}
 
-/// A part that is widened is a part, and a closed one stays closed, also as a pass sees it that holds the row taken into it.
+/// A part that is widened is a part, and a closed one stays closed, also as a pass sees it that holds the row taken
+/// into it.
 pub fn widened_parts()
     ensures part { WidenedIsPart }
     ensures closed { WidenedIsClosed }
@@ -249,8 +254,8 @@ pub fn widened_parts()
     ensures held_closed { HeldWidenedIsClosed }
 {}
 
-/// In a closed part nothing hangs between two rows that overlap the range, and nothing where the range itself has its place. A
-/// search reaches exactly the hangs that aren't aside: so it reaches none of a closed part.
+/// In a closed part nothing hangs between two rows that overlap the range, and nothing where the range itself has its
+/// place. A search reaches exactly the hangs that aren't aside: so it reaches none of a closed part.
 pub fn hangs_of_closed_parts()
     ensures between { NoneHangsBetween }
     ensures there { NoneHangsThere }
@@ -261,8 +266,8 @@ pub fn hangs_of_closed_parts()
     ensures place { FreePlaceIsThere }
 {}
 
-/// What hangs below a part is a further row that isn't of the part, and each row of a part but its uppermost is named by a link of
-/// a row of that part.
+/// What hangs below a part is a further row that isn't of the part, and each row of a part but its uppermost is named
+/// by a link of a row of that part.
 pub fn rows_that_are_named()
     ensures hangs { HangsNameOthers }
     ensures held_hangs { HeldHangsNameOthers }
@@ -270,16 +275,16 @@ pub fn rows_that_are_named()
     ensures held_rows { HeldRowsAreNamed }
 {}
 
-/// A row that has a gap stands in a tree in Tree mode. No held row of the pool leads back to itself along held rows, and a tree
-/// whose held anchor leads nowhere has no pairs.
+/// A row that has a gap stands in a tree in Tree mode. No held row of the pool leads back to itself along held rows,
+/// and a tree whose held anchor leads nowhere has no pairs.
 pub fn trees_and_pools_that_are_read()
     ensures gap { GapRowsTreeMode }
     ensures pool { NoneOfPoolIsReadBack }
     ensures empty { EmptyTreeIsRead }
 {}
 
-/// What hangs on one side of a row with a gap makes a part with that row, also as a pass sees it. The part with the row has the row
-/// more in key order, and what the part without it says of hangs, bounds and rows holds of it.
+/// What hangs on one side of a row with a gap makes a part with that row, also as a pass sees it. The part with the row
+/// has the row more in key order, and what the part without it says of hangs, bounds and rows holds of it.
 pub fn parts_beside_a_row()
     ensures part { SideIsPart }
     ensures held { HeldSideIsPart }
@@ -290,7 +295,8 @@ pub fn parts_beside_a_row()
     ensures lawful { SideIsLawful }
 {}
 
-/// What an ask, a free or a question on one side of a row makes of the part with the row is decided by the part without it.
+/// What an ask, a free or a question on one side of a row makes of the part with the row is decided by the part without
+/// it.
 pub fn deeds_beside_a_row()
     ensures decides { SideDecides }
     ensures granted { SideShowsGranted }
@@ -299,15 +305,16 @@ pub fn deeds_beside_a_row()
     ensures who { SideShowsWho }
 {}
 
-/// A plan that leaves a part's rows and hangs in their order, as one that turns two rows, meets what a change of layout asks.
+/// A plan that leaves a part's rows and hangs in their order, as one that turns two rows, meets what a change of layout
+/// asks.
 pub fn plans_for_layouts()
     ensures order { SameOrderLays }
     ensures anchor { TurnLaysAtAnchor }
     ensures row { TurnLaysAtRow }
 {}
 
-/// What names a row that goes to the pool, of a part that is laid anew or of a buffer, is a link of the part's rows, of the buffer's
-/// rows, or of their anchor: so it stands on a row that the pass holds.
+/// What names a row that goes to the pool, of a part that is laid anew or of a buffer, is a link of the part's rows, of
+/// the buffer's rows, or of their anchor: so it stands on a row that the pass holds.
 pub fn rows_that_are_given()
     ensures part { GivenAreNamedWithin }
     ensures buffer { ChainIsNamedWithin }
@@ -315,22 +322,25 @@ pub fn rows_that_are_given()
     ensures held_buffer { ChainIsNamedByHeld }
 {}
 
-/// A run of rows may become one whose range is the span of the asked one and the run's, and a row may be put in where the range
-/// overlaps none: no bound gets tighter.
+/// A run of rows may become one whose range is the span of the asked one and the run's, and a row may be put in where
+/// the range overlaps none: no bound gets tighter.
 pub fn runs_that_become_one()
     ensures span { SpanMayMerge }
     ensures merged { MergedRunLoosens }
     ensures put_in { PutInLoosens }
     ensures pairs { RowsShowPairs }
     ensures granted { MergedRunIsGranted }
+    ensures merged_rows { MergedRunKeepsRows }
+    ensures put_in_rows { PutInKeepsRows }
 {}
 
-/// Rows may be left out of a part one by one, where the link before such a row or the one behind it is 0: no bound gets tighter,
-/// and the new part shows what a free leaves.
+/// Rows may be left out of a part one by one, where the link before such a row or the one behind it is 0: no bound gets
+/// tighter, and the new part shows what a free leaves.
 pub fn rows_that_are_left_out()
     ensures none { NoneIsLeftOut }
     ensures kept { OneIsKept }
     ensures left_out { OneIsLeftOut }
     ensures loose { LeftOutLoosens }
     ensures freed { LeftOutIsFreed }
+    ensures rows { LeftOutKeepsRows }
 {}
