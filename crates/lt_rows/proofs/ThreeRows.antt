@@ -44,6 +44,7 @@ three_on k v0 v w tree three e h = record {
   link = h.link;
   further = h.further;
   inside = h.inside;
+  others = λ r n n' n''. ap (λ (l : List (Option Row)). get_or l r None) e ∙ h.others r n n' n'';
 }
 
 -- a commit from a view that had seen what another had, and what it leaves once all rows are given back

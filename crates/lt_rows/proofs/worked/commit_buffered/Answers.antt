@@ -6,7 +6,9 @@ use Rattle.lt_seq.specs.declared.event.Deed.TheVariants.{Ask}
 use Rattle.lt_seq.specs.declared.event.Reply.TheVariants.{Buffered}
 use Rattle.lt_seq.specs.declared.plan.YardPlan.{YardPlan}
 use Rattle.lt_rows.specs.declared.view.View.{View}
+use Rattle.lt_rows.specs.Views.{row_at}
 use Rattle.lt_rows.specs.Handles.{knows}
+use Rattle.lt_rows.proofs.Wide.{still_none}
 use Rattle.lt_rows.proofs.BufferAsk.{buffer_ask}
 use Rattle.lt_rows.proofs.ThreeRows.{apart, held_after}
 use Rattle.lt_rows.proofs.worked.commit_buffered.Goals as goal
@@ -40,3 +42,11 @@ pub returns-clause-apart : goal.returns-clause-apart
 returns-clause-apart c =
     let plan = c.requires.plan in
     apart c.args.table.now.plan c.requires.three.0 (knows c.args.pass.now) c.args.tree c.args.three.now c.args.plan.0 c.args.plan.1 c.args.plan.2 c.requires.tree c.requires.three.1 plan.anchor_row plan.pool_row plan.vacant_row
+
+pub returns-clause-others : goal.returns-clause-others
+returns-clause-others c r n n' n'' =
+    let h = c.requires.three.1 in
+    let plan = c.requires.plan in
+    ap (λ (u : View). row_at u r) c.commit.ensures.made.2
+    ∙ still_none (knows c.args.pass.now) (c.args.plan.0 ∷ c.args.plan.1 ∷ c.args.plan.2 ∷ []) [] r
+    (h.others r (λ e. n (e ∙ sym plan.anchor_row)) (λ e. n' (e ∙ sym plan.pool_row)) (λ e. n'' (e ∙ sym plan.vacant_row)))
