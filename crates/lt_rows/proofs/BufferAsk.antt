@@ -11,7 +11,7 @@ use Rattle.lt_rows.specs.declared.image.RowImage.{RowImage}
 use Rattle.lt_rows.specs.declared.worked.Three.{Three}
 use Rattle.lt_rows.specs.Nodes.{node_of, mode_of, mode_by}
 use Rattle.lt_rows.specs.Lawful.{mode_before, mode_after, How, begins_buffer, adds_to_buffer, IsCommit}
-use Rattle.lt_rows.specs.Worked.{HasThree, MayBuffer, IsBufferPlan, ask_buffered}
+use Rattle.lt_rows.specs.Worked.{HasThree, IsFirst, MayBuffer, IsBufferPlan, ask_buffered}
 use Rattle.lt_rows.proofs.FirstAsk.{whole_is, mode_tree}
 use Rattle.lt_rows.proofs.ThreeRows.{is_left, anchor_image, after_anchor, puts, these}
 
@@ -20,46 +20,46 @@ unfolding mode_of
 mode_buffer ws txn count more owner rows =
     ap (λ b. mode_by b (TreeMode (slice_index ws 19)) (Buffer (slice_index ws 0) (slice_index ws 20))) (ne_eqb (slice_index ws 0) 0 (λ e. omega arith)) ∙ (λ j. Buffer (owner j) (rows j))
 
-module _ (k : YardPlan) (v0 v : View) (tree txn count : ℕ) (three : Three) (a p x : RowImage) (more : 0 < txn) (lt : tree < k.trees) (h : HasThree k v0 v tree three)
+module _ (k : YardPlan) (v : View) (tree txn count : ℕ) (three : Three) (a p x : RowImage) (more : 0 < txn) (lt : tree < k.trees) (h : HasThree k v tree three) (first : IsFirst three)
     (pool_long : length three.pool.words ≡ 21) (plan : IsBufferPlan three txn count a p x) where
   abbrev images_of : List RowImage
   images_of = a ∷ p ∷ x ∷ []
 
   anchor_is : mode_before v images_of tree ≡ mode_of three.anchor.words
-  anchor_is = ap mode_of (anchor_image k v0 v tree three a p x lt h plan.anchor_row plan.pool_row plan.vacant_row)
+  anchor_is = ap mode_of (anchor_image k v tree three a p x lt h plan.anchor_row plan.pool_row plan.vacant_row)
 
   now : mode_after v images_of tree ≡ Buffer txn (count + 1)
-  now = ap mode_of (after_anchor k v0 v tree three a p x lt h plan.anchor_row plan.pool_row plan.vacant_row) ∙ mode_buffer a.words txn (count + 1) more plan.owner plan.count_is
+  now = ap mode_of (after_anchor k v tree three a p x lt h plan.anchor_row plan.pool_row plan.vacant_row) ∙ mode_buffer a.words txn (count + 1) more plan.owner plan.count_is
 
   how : (pass : ℕ) (deed : Deed) → deed ≡ ask_buffered tree → MayBuffer k.buffer txn count three.anchor.words → How k v (record { pass = pass; txn = txn; deed = deed }) images_of
   how pass deed is (inl m) = begins_buffer record {
     tree = tree;
-    vacant = three.vacant.row;
+    vacant = three.row.row;
     range = whole;
     deed = is;
     question = whole_is;
-    these = these k v0 v tree three a p x lt h plan.anchor_row plan.pool_row plan.vacant_row;
+    these = these k v tree three a p x lt h plan.anchor_row plan.pool_row plan.vacant_row;
     begins = record {
       room = m.3;
       was = anchor_is ∙ (mode_tree three.anchor.words m.0 ∙ ap TreeMode m.2);
-      empty = ap (λ (ws : List ℕ). (node_of ws).left) (anchor_image k v0 v tree three a p x lt h plan.anchor_row plan.pool_row plan.vacant_row) ∙ (is_left three.anchor.words ∙ m.1);
+      empty = ap (λ (ws : List ℕ). (node_of ws).left) (anchor_image k v tree three a p x lt h plan.anchor_row plan.pool_row plan.vacant_row) ∙ (is_left three.anchor.words ∙ m.1);
       now = now ∙ ap (λ (n : ℕ). Buffer txn (n + 1)) m.4;
-      puts = puts k v0 v tree three a p x lt h plan.anchor_row plan.pool_row plan.vacant_row txn plan.link plan.pool_words pool_long plan.vacant_words;
+      puts = puts k v tree three a p x lt h plan.anchor_row plan.pool_row plan.vacant_row txn first plan.link plan.pool_words pool_long plan.vacant_words;
     };
   }
   how pass deed is (inr m) = adds_to_buffer record {
     tree = tree;
-    vacant = three.vacant.row;
+    vacant = three.row.row;
     count = count;
     range = whole;
     deed = is;
     question = whole_is;
-    these = these k v0 v tree three a p x lt h plan.anchor_row plan.pool_row plan.vacant_row;
+    these = these k v tree three a p x lt h plan.anchor_row plan.pool_row plan.vacant_row;
     appends = record {
       room = m.2;
       was = anchor_is ∙ mode_buffer three.anchor.words txn count more m.0 m.1;
       now = now;
-      puts = puts k v0 v tree three a p x lt h plan.anchor_row plan.pool_row plan.vacant_row txn plan.link plan.pool_words pool_long plan.vacant_words;
+      puts = puts k v tree three a p x lt h plan.anchor_row plan.pool_row plan.vacant_row txn first plan.link plan.pool_words pool_long plan.vacant_words;
     };
   }
 

@@ -1,5 +1,5 @@
 -- Plans for a tree's only row, which is held without its anchor, meet the conditions of a commit and of a settle.
-use Rattle.std.proofs.Common.{◌≡◌, ◌≢◌, inl, inr, ℕ, ◌+◌, ◌<◌, ◌-◌, Bool, true, false, cond, List, [], ◌∷◌, map, fold, length, get_or, refl, sym, ap, ◌∙◌, subst, arith, eq-eqb, ne_eqb, get_or-set_other, zero, suc, ◌≤◌, set, take, drop}
+use Rattle.std.proofs.Common.{◌≡◌, ◌≢◌, inl, inr, ℕ, ◌+◌, ◌<◌, Bool, true, false, cond, List, [], ◌∷◌, map, fold, get_or, refl, sym, ap, ◌∙◌, subst, arith, eq-eqb, ne_eqb, get_or-set_other, zero, suc, ◌≤◌, set, take, drop}
 use Rattle.std.specs.Prelude.{Option, Some, None, pos, slice_index, slice_index_or, nat_eq, nat_lt, ◌==◌, ◌&&◌, not, if◌then◌else◌}
 use mathlib.Core.Logic.{dite}
 use native.Mathlib.Decide.{ℕ_discrete}
@@ -11,7 +11,6 @@ use Rattle.lt_ranges.specs.Interval.{Interval, whole, overlap, hull}
 use Rattle.lt_seq.specs.declared.plan.YardPlan.{YardPlan}
 use Rattle.lt_seq.specs.declared.event.Event.{Event}
 use Rattle.lt_seq.specs.declared.event.Pair.{Pair}
-use Rattle.lt_seq.specs.declared.event.Mode.{Mode}
 use Rattle.lt_seq.specs.declared.event.Mode.TheVariants.{Tree as TreeMode}
 use Rattle.lt_seq.specs.declared.event.Deed.{Deed}
 use Rattle.lt_seq.specs.declared.event.Deed.TheVariants.{Ask}
@@ -19,11 +18,9 @@ use Rattle.lt_seq.specs.declared.event.Reply.TheVariants.{Buffered}
 use Rattle.lt_seq.specs.Pairs.{granted, others, is_own, span}
 use Rattle.lt_seq.specs.Table.{TreeState, is_buffered, buffered_mode, ended, pairs_by, reply_by, tree_after, tree_of, replied}
 use Rattle.lt_seq.specs.SeqPass.{plain}
-use Rattle.lt_forest.specs.Bounds.{Gap}
 use Rattle.lt_forest.specs.Counts.{one_if, times}
-use Rattle.lt_forest.specs.Pairs.{Has}
 use Rattle.lt_forest.specs.Trees.{Node, pair_of}
-use Rattle.lt_forest.specs.Cuts.{Cut, end, held, IsRow}
+use Rattle.lt_forest.specs.Cuts.{Cut, end, held}
 use Rattle.lt_forest.specs.Plans.{Top, from_row, ShowsDeed}
 use Rattle.lt_forest.specs.Views.{IsIn, PlanLays, no_pool}
 use Rattle.lt_forest.proofs.MiddleSteps.{granted-own}
@@ -48,11 +45,11 @@ use Rattle.lt_rows.proofs.Views.{Kept, kept_words, kept_on}
 use Rattle.lt_rows.proofs.Wide.{still_none}
 use Rattle.lt_rows.proofs.ThreeRows.{is_left}
 
-is_right : (ws : List ℕ) → (node_of ws).right ≡ slice_index ws 18
+pub is_right : (ws : List ℕ) → (node_of ws).right ≡ slice_index ws 18
 unfolding node_of
 is_right ws = refl
 
-is_owner : (ws : List ℕ) → (node_of ws).owner ≡ slice_index ws 0
+pub is_owner : (ws : List ℕ) → (node_of ws).owner ≡ slice_index ws 0
 unfolding node_of
 is_owner ws = refl
 
@@ -97,7 +94,7 @@ module _ (txn : ℕ) (r : Interval) where
   same : nat_eq txn txn ≡ true
   same = eq-eqb txn txn refl
 
-  own_is : is_own txn whole own ≡ true
+  pub own_is : is_own txn whole own ≡ true
   own_is = ap (λ b. b && overlap r whole) same ∙ in_whole r
 
   no_others : others txn whole (own ∷ []) ≡ []

@@ -17,7 +17,7 @@ use Rattle.lt_rows.specs.declared.worked.Three.{Three}
 use Rattle.lt_rows.specs.Nodes.{node_of}
 use Rattle.lt_rows.specs.Views.{Holds, committed, has, images, image_of, changed, planned_contents, planned_rows}
 use Rattle.lt_rows.specs.Lawful.{shown, shown_after}
-use Rattle.lt_rows.specs.Worked.{HasRow, HasThree, HoldsImage, AreApart, whole_node, IsCommitOf}
+use Rattle.lt_rows.specs.Worked.{HasRow, HasThree, IsFirst, HoldsImage, AreApart, whole_node, IsCommitOf}
 use Rattle.lt_rows.proofs.Frames.{changed_at, changed_else}
 use Rattle.lt_rows.proofs.Planned.{row_held}
 use Rattle.lt_rows.proofs.Views.{after_commit}
@@ -34,14 +34,13 @@ is_left ws = refl
 pub row_on : (v w : View) (i : RowImage) → w.held ≡ v.held → HasRow v i → HasRow w i
 row_on v w i e r = record { row = r.row; held = ap (λ (l : List (Option Row)). get_or l i.row None) e ∙ r.held; words = r.words; image_is = r.image_is }
 
-pub three_on : (k : YardPlan) (v0 v w : View) (tree : ℕ) (three : Three) → w.held ≡ v.held → HasThree k v0 v tree three → HasThree k v0 w tree three
-three_on k v0 v w tree three e h = record {
+pub three_on : (k : YardPlan) (v w : View) (tree : ℕ) (three : Three) → w.held ≡ v.held → HasThree k v tree three → HasThree k w tree three
+three_on k v w tree three e h = record {
   anchor = row_on v w three.anchor e h.anchor;
   pool = row_on v w three.pool e h.pool;
-  vacant = row_on v w three.vacant e h.vacant;
+  row = row_on v w three.row e h.row;
   anchor_row = h.anchor_row;
   pool_row = h.pool_row;
-  link = h.link;
   further = h.further;
   inside = h.inside;
   others = λ r n n' n''. ap (λ (l : List (Option Row)). get_or l r None) e ∙ h.others r n n' n'';
@@ -56,10 +55,10 @@ then_ended k v u w z rest e place looked made same = record {
   place_is = made.place_is;
 }
 
-module _ (k : YardPlan) (v0 v : View) (tree : ℕ) (three : Three) (a p x : RowImage) (lt : tree < k.trees) (h : HasThree k v0 v tree three)
-    (row_a : a.row ≡ three.anchor.row) (row_p : p.row ≡ three.pool.row) (row_x : x.row ≡ three.vacant.row) where
+module _ (k : YardPlan) (v : View) (tree : ℕ) (three : Three) (a p x : RowImage) (lt : tree < k.trees) (h : HasThree k v tree three)
+    (row_a : a.row ≡ three.anchor.row) (row_p : p.row ≡ three.pool.row) (row_x : x.row ≡ three.row.row) where
   abbrev pub q : ℕ
-  q = three.vacant.row
+  q = three.row.row
 
   abbrev pub images_of : List RowImage
   images_of = a ∷ p ∷ x ∷ []
@@ -84,8 +83,8 @@ module _ (k : YardPlan) (v0 v : View) (tree : ℕ) (three : Three) (a p x : RowI
   pub pool_image : images v k.trees ≡ three.pool.words
   pool_image = ap (images v) (sym h.pool_row) ∙ image_at three.pool h.pool
 
-  pub vacant_image : images v (three.vacant.row) ≡ three.vacant.words
-  vacant_image = image_at three.vacant h.vacant
+  pub vacant_image : images v (three.row.row) ≡ three.row.words
+  vacant_image = image_at three.row h.row
 
   pub has_anchor : IsIn (has v) tree
   has_anchor = subst (IsIn (has v)) h.anchor_row (row_held v three.anchor.row h.anchor.row h.anchor.held)
@@ -93,8 +92,8 @@ module _ (k : YardPlan) (v0 v : View) (tree : ℕ) (three : Three) (a p x : RowI
   pub has_pool : IsIn (has v) k.trees
   has_pool = subst (IsIn (has v)) h.pool_row (row_held v three.pool.row h.pool.row h.pool.held)
 
-  pub has_vacant : IsIn (has v) (three.vacant.row)
-  has_vacant = row_held v three.vacant.row h.vacant.row h.vacant.held
+  pub has_vacant : IsIn (has v) (three.row.row)
+  has_vacant = row_held v three.row.row h.row.row h.row.held
 
   abbrev c1 : ℕ → List ℕ
   c1 = changed (images v) a.row a.words
@@ -113,28 +112,28 @@ module _ (k : YardPlan) (v0 v : View) (tree : ℕ) (three : Three) (a p x : RowI
       let f = h.further in let ex = row_x in
       changed_else c2 x.row x.words k.trees (λ e. omega arith) ∙ changed_at c1 p.row p.words k.trees (sym at_pool)
 
-  pub after_vacant : planned_contents (images v) (a ∷ p ∷ x ∷ []) (three.vacant.row) ≡ x.words
-  after_vacant = changed_at c2 x.row x.words three.vacant.row (sym row_x)
+  pub after_vacant : planned_contents (images v) (a ∷ p ∷ x ∷ []) (three.row.row) ≡ x.words
+  after_vacant = changed_at c2 x.row x.words three.row.row (sym row_x)
 
   -- the pool's anchor leads on to the next vacant row
-  pub pool_link : p.words ≡ slice_set three.pool.words 17 (slice_index three.vacant.words 17) → length three.pool.words ≡ 21
-      → (shown_after v (a ∷ p ∷ x ∷ []) k.trees).left ≡ (shown v (a ∷ p ∷ x ∷ []) (three.vacant.row)).left
+  pub pool_link : p.words ≡ slice_set three.pool.words 17 (slice_index three.row.words 17) → length three.pool.words ≡ 21
+      → (shown_after v (a ∷ p ∷ x ∷ []) k.trees).left ≡ (shown v (a ∷ p ∷ x ∷ []) (three.row.row)).left
   pool_link words long = ap (λ (ws : List ℕ). (node_of ws).left) (after_pool ∙ words)
-      ∙ (link_left three.pool.words (slice_index three.vacant.words 17) long ∙ (sym (is_left three.vacant.words) ∙ ap (λ (ws : List ℕ). (node_of ws).left) (sym vacant_image)))
+      ∙ (link_left three.pool.words (slice_index three.row.words 17) long ∙ (sym (is_left three.row.words) ∙ ap (λ (ws : List ℕ). (node_of ws).left) (sym vacant_image)))
 
-  pub first_link : (shown v (a ∷ p ∷ x ∷ []) k.trees).left ≡ three.vacant.row + 1
-  first_link = ap (λ (ws : List ℕ). (node_of ws).left) pool_image ∙ (is_left three.pool.words ∙ h.link)
+  pub first_link : IsFirst three → (shown v (a ∷ p ∷ x ∷ []) k.trees).left ≡ three.row.row + 1
+  first_link first = ap (λ (ws : List ℕ). (node_of ws).left) pool_image ∙ (is_left three.pool.words ∙ first)
 
-  pub top_link_is : slice_index a.words 17 ≡ three.vacant.row + 1 → (shown_after v (a ∷ p ∷ x ∷ []) tree).left ≡ three.vacant.row + 1
+  pub top_link_is : slice_index a.words 17 ≡ three.row.row + 1 → (shown_after v (a ∷ p ∷ x ∷ []) tree).left ≡ three.row.row + 1
   top_link_is link = ap (λ (ws : List ℕ). (node_of ws).left) after_anchor ∙ (is_left a.words ∙ link)
 
   -- the vacant row goes to the front of the tree's chain
-  pub puts : (txn : ℕ) → slice_index a.words 17 ≡ three.vacant.row + 1 → p.words ≡ slice_set three.pool.words 17 (slice_index three.vacant.words 17) → length three.pool.words ≡ 21
-      → node_of x.words ≡ whole_node txn (slice_index three.anchor.words 17) → PutsFirst k.trees tree (three.vacant.row) txn whole (shown v (a ∷ p ∷ x ∷ [])) (shown_after v (a ∷ p ∷ x ∷ []))
-  puts txn link words long node =
+  pub puts : (txn : ℕ) → IsFirst three → slice_index a.words 17 ≡ three.row.row + 1 → p.words ≡ slice_set three.pool.words 17 (slice_index three.row.words 17) → length three.pool.words ≡ 21
+      → node_of x.words ≡ whole_node txn (slice_index three.anchor.words 17) → PutsFirst k.trees tree (three.row.row) txn whole (shown v (a ∷ p ∷ x ∷ [])) (shown_after v (a ∷ p ∷ x ∷ []))
+  puts txn first link words long node =
       let is = ap node_of after_vacant ∙ node in
       record {
-        first_vacant = first_link;
+        first_vacant = first_link first;
         pool_link = pool_link words long;
         top = top_link_is link;
         owner = ap (λ (n : Node). n.owner) is;
@@ -142,18 +141,18 @@ module _ (k : YardPlan) (v0 v : View) (tree : ℕ) (three : Three) (a p x : RowI
         next = ap (λ (n : Node). n.left) is ∙ (sym (is_left three.anchor.words) ∙ ap (λ (ws : List ℕ). (node_of ws).left) (sym anchor_image));
       }
 
-  three_held : (r : ℕ) → 0 < times r (tree ∷ k.trees ∷ three.vacant.row ∷ []) → IsIn (has v) r
+  three_held : (r : ℕ) → 0 < times r (tree ∷ k.trees ∷ three.row.row ∷ []) → IsIn (has v) r
   three_held r some = dite (ℕ_discrete r tree)
       (λ e. subst (IsIn (has v)) (sym e) has_anchor)
       (λ ne. let one : one_if (nat_eq tree r) ≡ 0 = ap one_if (ne_eqb tree r (λ e. ne (sym e))) in
       dite (ℕ_discrete r k.trees)
       (λ e. subst (IsIn (has v)) (sym e) has_pool)
       (λ ne'. let two : one_if (nat_eq k.trees r) ≡ 0 = ap one_if (ne_eqb k.trees r (λ e. ne' (sym e))) in
-      dite (ℕ_discrete r three.vacant.row)
+      dite (ℕ_discrete r three.row.row)
       (λ e. subst (IsIn (has v)) (sym e) has_vacant)
-      (λ ne''. let last : one_if (nat_eq three.vacant.row r) ≡ 0 = ap one_if (ne_eqb three.vacant.row r (λ e. ne'' (sym e))) in absurd (omega arith))))
+      (λ ne''. let last : one_if (nat_eq three.row.row r) ≡ 0 = ap one_if (ne_eqb three.row.row r (λ e. ne'' (sym e))) in absurd (omega arith))))
 
-  pub these : PlansThese (IsIn (has v)) (planned_rows (a ∷ p ∷ x ∷ [])) (tree ∷ k.trees ∷ three.vacant.row ∷ [])
+  pub these : PlansThese (IsIn (has v)) (planned_rows (a ∷ p ∷ x ∷ [])) (tree ∷ k.trees ∷ three.row.row ∷ [])
   these = record {
     held = three_held;
     only = λ r none. subst (λ (l : List ℕ). times r l ≡ 0) (λ j. sym at_anchor j ∷ sym at_pool j ∷ sym row_x j ∷ []) none;
@@ -164,5 +163,5 @@ module _ (k : YardPlan) (v0 v : View) (tree : ℕ) (three : Three) (a p x : RowI
   held_after w front e = (
     (let n = after_commit v w (a ∷ p ∷ x ∷ []) front three.anchor a.words h.anchor e (ap (planned_contents (images v) (a ∷ p ∷ x ∷ [])) h.anchor_row ∙ after_anchor) in (n.0, subst (λ (r : ℕ). Holds w r n.0) (sym row_a) n.1, n.2)),
     (let n = after_commit v w (a ∷ p ∷ x ∷ []) front three.pool p.words h.pool e (ap (planned_contents (images v) (a ∷ p ∷ x ∷ [])) h.pool_row ∙ after_pool) in (n.0, subst (λ (r : ℕ). Holds w r n.0) (sym row_p) n.1, n.2)),
-    (let n = after_commit v w (a ∷ p ∷ x ∷ []) front three.vacant x.words h.vacant e after_vacant in (n.0, subst (λ (r : ℕ). Holds w r n.0) (sym row_x) n.1, n.2)),
+    (let n = after_commit v w (a ∷ p ∷ x ∷ []) front three.row x.words h.row e after_vacant in (n.0, subst (λ (r : ℕ). Holds w r n.0) (sym row_x) n.1, n.2)),
   )

@@ -11,7 +11,7 @@ use Rattle.lt_rows.proofs.worked.ask_buffered.Goals as goal
 
 pub commit_buffered-place-requires-clause-three : goal.commit_buffered-place-requires-clause-three
 commit_buffered-place-requires-clause-three c =
-    (knows c.args.pass.now, three_on c.args.table.now.plan (knows c.args.pass.now) (knows c.gather.new.pass) (knows c.look-look.new.pass) c.args.tree c.in_ok-three.three (ap (λ (v : View). v.held) c.look-look.ensures.looks.view) c.in_ok-three.ensures.held)
+    three_on c.args.table.now.plan (knows c.gather.new.pass) (knows c.look-look.new.pass) c.args.tree c.in_ok-three.three (ap (λ (v : View). v.held) c.look-look.ensures.looks.view) c.in_ok-three.ensures.held
 
 pub returns-clause-made : goal.returns-clause-made
 returns-clause-made c =

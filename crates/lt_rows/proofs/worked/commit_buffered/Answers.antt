@@ -17,7 +17,7 @@ pub commit-requires-clause-lawful : goal.commit-requires-clause-lawful
 commit-requires-clause-lawful c =
     let three = c.args.three.now in
     let pool_long : length c.args.three.now.pool.words ≡ 21 = search rules in
-    buffer_ask c.args.table.now.plan c.requires.three.0 (knows c.args.pass.now) c.args.tree c.args.txn c.args._count three c.args.plan.0 c.args.plan.1 c.args.plan.2 c.requires.txn c.requires.tree c.requires.three.1 pool_long c.requires.plan
+    buffer_ask c.args.table.now.plan (knows c.args.pass.now) c.args.tree c.args.txn c.args._count three c.args.plan.0 c.args.plan.1 c.args.plan.2 c.requires.txn c.requires.tree c.requires.three c.requires.first pool_long c.requires.plan
     c.args.pass.now.number _ (sym c.args.pass.now.numbered.0) (ap (λ (r : Interval). Ask c.args.tree r Buffered) c.whole.ensures) c.requires.fresh.2 c.requires.buffer
 
 pub returns-clause-made : goal.returns-clause-made
@@ -36,16 +36,16 @@ returns-clause-made c =
 pub returns-clause-rows : goal.returns-clause-rows
 returns-clause-rows c =
     let plan = c.requires.plan in
-    held_after c.args.table.now.plan c.requires.three.0 (knows c.args.pass.now) c.args.tree c.args.three.now c.args.plan.0 c.args.plan.1 c.args.plan.2 c.requires.tree c.requires.three.1 plan.anchor_row plan.pool_row plan.vacant_row (knows c.commit.new.pass) _ c.commit.ensures.made.2
+    held_after c.args.table.now.plan (knows c.args.pass.now) c.args.tree c.args.three.now c.args.plan.0 c.args.plan.1 c.args.plan.2 c.requires.tree c.requires.three plan.anchor_row plan.pool_row plan.vacant_row (knows c.commit.new.pass) _ c.commit.ensures.made.2
 
 pub returns-clause-apart : goal.returns-clause-apart
 returns-clause-apart c =
     let plan = c.requires.plan in
-    apart c.args.table.now.plan c.requires.three.0 (knows c.args.pass.now) c.args.tree c.args.three.now c.args.plan.0 c.args.plan.1 c.args.plan.2 c.requires.tree c.requires.three.1 plan.anchor_row plan.pool_row plan.vacant_row
+    apart c.args.table.now.plan (knows c.args.pass.now) c.args.tree c.args.three.now c.args.plan.0 c.args.plan.1 c.args.plan.2 c.requires.tree c.requires.three plan.anchor_row plan.pool_row plan.vacant_row
 
 pub returns-clause-others : goal.returns-clause-others
 returns-clause-others c r n n' n'' =
-    let h = c.requires.three.1 in
+    let h = c.requires.three in
     let plan = c.requires.plan in
     ap (λ (u : View). row_at u r) c.commit.ensures.made.2
     ∙ still_none (knows c.args.pass.now) (c.args.plan.0 ∷ c.args.plan.1 ∷ c.args.plan.2 ∷ []) [] r

@@ -1,10 +1,9 @@
-use Rattle.std.proofs.Common.{arith, ◌≡◌, ◌≢◌, ℕ, ◌+◌, ◌-◌, ◌<◌, sym, ap, ◌∙◌, subst}
+use Rattle.std.proofs.Common.{arith, ◌≢◌, ℕ, ◌-◌, ◌<◌, sym, ap, ◌∙◌, subst}
 use Rattle.std.specs.Prelude.{slice_index, None}
 use Rattle.lt_rows.specs.declared.view.View.{View}
 use Rattle.lt_rows.specs.Views.{row_at, words_of, rows_of}
 use Rattle.lt_rows.specs.Teaching.{Teaches}
 use Rattle.lt_rows.specs.Handles.{knows}
-use Rattle.lt_rows.specs.WorkedRow.{HasOnly}
 use Rattle.lt_rows.proofs.Opens.{some_rows}
 use Rattle.lt_rows.proofs.Views.{Kept, kept_held, kept_same, kept_on, took, took_else, link_read, row_else}
 use Rattle.lt_rows.proofs.OnlyRow.{goes_down, only_on}

@@ -1,11 +1,10 @@
-use Rattle.std.proofs.Common.{◌≡◌, ◌≢◌, ◌++◌, ◌+◌, ℕ, List, length, refl, sym, ap, ◌∙◌, set}
+use Rattle.std.proofs.Common.{◌++◌, ◌+◌, List, length, refl, sym, ap, ◌∙◌, set}
 use mathlib.Core.Logic.{dite}
 use native.Mathlib.Decide.{ℕ_discrete}
 use Rattle.lt_seq.specs.declared.event.Event.{Event}
 use Rattle.lt_seq.specs.declared.plan.YardPlan.{YardPlan}
 use Rattle.lt_rows.specs.declared.view.View.{View}
 use Rattle.lt_rows.specs.declared.image.RowImage.{RowImage}
-use Rattle.lt_rows.specs.Nodes.{node_of}
 use Rattle.lt_rows.specs.Views.{row_at}
 use Rattle.lt_rows.specs.Handles.{knows}
 use Rattle.lt_rows.proofs.OnlyRow.{row_settle, after_settle, estimates_aside, left_of_words, right_of_words}
