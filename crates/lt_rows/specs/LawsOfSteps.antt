@@ -39,7 +39,11 @@ CommittedRowHasImage =
 abbrev pub SettledRowHasImage : Type 0
 SettledRowHasImage =
     (v : View) (plan : List RowImage) (front : List Event) (r : ℕ) (row : Row) → Holds v r row
-    → Holds (settled v plan (new_gaps v plan) front) r record { words = row.words; image = planned_contents (images v) plan r; gap = slice_index_or (new_gaps v plan) r None }
+    → Holds (settled v plan (new_gaps v plan) front) r record {
+      words = row.words;
+      image = planned_contents (images v) plan r;
+      gap = slice_index_or (new_gaps v plan) r None;
+    }
 
 abbrev pub UnplannedRowKeepsGap : Type 0
 UnplannedRowKeepsGap =

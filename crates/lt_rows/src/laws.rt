@@ -1,7 +1,12 @@
 //! Laws of the rows. Each function's contract is a law over the definitions; the bodies are empty.
-ghost use Rattle.lt_rows.specs.LawsOfRule.{OneHolds, AllRightsAreAlone, GappedRowIsOfItsTree, ClosedPartHasAllRows, LimitIsKept, NoneIsGivenAgain, TakenIsHeld};
-ghost use Rattle.lt_rows.specs.LawsOfLessons.{HistoryIsLegal, AnchorShowsMode, NoLinkShowsNoPairs, AnchorIsLinked, GappedRowIsLinked, PartRowIsLinked, LinksNameFurtherRows, NoRowIsNamedTwice, NoneLeadsBackToItself, PoolNamesNoGappedRow, LicensedFindsVacant, GappedRowShowsRange, PartShowsPairsOfTree, ClosedPartShowsAll, WholePartShowsTree, WholeChainShowsBuffer};
-ghost use Rattle.lt_rows.specs.LawsOfSteps.{TakenRowIsHeld, WrittenRowIsStored, PutRowIsGone, CommittedRowHasImage, SettledRowHasImage, UnplannedRowKeepsGap, GatheringIsKept};
+ghost use Rattle.lt_rows.specs.LawsOfRule.{OneHolds, AllRightsAreAlone, GappedRowIsOfItsTree, ClosedPartHasAllRows};
+ghost use Rattle.lt_rows.specs.LawsOfRule.{LimitIsKept, NoneIsGivenAgain, TakenIsHeld};
+ghost use Rattle.lt_rows.specs.LawsOfLessons.{HistoryIsLegal, AnchorShowsMode, NoLinkShowsNoPairs, AnchorIsLinked};
+ghost use Rattle.lt_rows.specs.LawsOfLessons.{GappedRowIsLinked, PartRowIsLinked, LinksNameFurtherRows, NoRowIsNamedTwice};
+ghost use Rattle.lt_rows.specs.LawsOfLessons.{NoneLeadsBackToItself, PoolNamesNoGappedRow, LicensedFindsVacant, GappedRowShowsRange};
+ghost use Rattle.lt_rows.specs.LawsOfLessons.{PartShowsPairsOfTree, ClosedPartShowsAll, WholePartShowsTree, WholeChainShowsBuffer};
+ghost use Rattle.lt_rows.specs.LawsOfSteps.{TakenRowIsHeld, WrittenRowIsStored, PutRowIsGone, GatheringIsKept};
+ghost use Rattle.lt_rows.specs.LawsOfSteps.{CommittedRowHasImage, SettledRowHasImage, UnplannedRowKeepsGap};
 
 /// At every moment no two seats hold one row, and beside a pass with all the rights none holds any. Where a held row has a seen
 /// gap, it is a row of its tree in Tree mode.

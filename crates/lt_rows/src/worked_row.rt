@@ -1,6 +1,7 @@
 //! Work on a tree's only row, which is reached from the anchor and held alone, by the calls alone: its owner asks for the whole
 //! range, and the row's estimates are set.
-ghost use Rattle.std.specs.Prelude.{◌≡◌, ◌≢◌, ℕ, List, ◌++◌, ◌+◌, ◌<◌, length, None, IfSome};
+ghost use Rattle.std.specs.Prelude.{◌≡◌, ◌≢◌, ℕ, ◌+◌, ◌<◌, length, None, IfSome};
+ghost use Rattle.lt_seq.specs.History.{IsFront};
 ghost use Rattle.lt_rows.specs.Views.{row_at};
 ghost use Rattle.lt_rows.specs.Handles.{knows, IsPassOf, IsSamePass};
 ghost use Rattle.lt_rows.specs.Worked.{IsCommitOf, ask_whole};
@@ -92,7 +93,8 @@ pub fn estimate(
     requires tree { tree < table.now.plan.trees }
     requires none { (r : ℕ) → row_at (knows pass.old) r ≡ None }
     ensures of { IsPassOf table.now pass.new × IsSamePass pass.old pass.new }
-    ensures place { IfSome result (λ place. (rest : List _) × ((knows pass.new).front ≡ (knows pass.old).front ++ rest) × (place ≡ table.now.plan.first + length (knows pass.new).front)) }
+    ensures front { IfSome result (λ _. IsFront (knows pass.old).front (knows pass.new).front) }
+    ensures place { IfSome result (λ place. place ≡ table.now.plan.first + length (knows pass.new).front) }
     ensures none { IfSome result (λ _. (r : ℕ) → row_at (knows pass.new) r ≡ None) }
 {
     let row = descend(table, pass, tree)?;

@@ -28,15 +28,17 @@ give_back-requires-clause-row c =
     let same = estimates_aside c.in_ok-row.row.words c.args.left c.args.right in
     (after_settle k (knows c.descend.new.pass) c.args.tree row image c.requires.tree h refl (left_of_words image.words row.words same h.none_left) (right_of_words image.words row.words same h.none_right) (knows c.settle-place.new.pass) _ c.settle-place.ensures.settled.2).0
 
+pub returns-clause-front : goal.returns-clause-front
+returns-clause-front c =
+    let made = c.settle-place.ensures.settled in
+    (made.0, (c.give_back.ensures.front ∙ ap (λ (u : View). u.front) made.2) ∙ ap (λ (l : List Event). l ++ made.0) c.descend.ensures.front)
+
 pub returns-clause-place : goal.returns-clause-place
 returns-clause-place c =
     let v : View = knows c.descend.new.pass in
     let made = c.settle-place.ensures.settled in
-    let front = c.give_back.ensures.front ∙ ap (λ (u : View). u.front) made.2 in (
-      made.0,
-      front ∙ ap (λ (l : List Event). l ++ made.0) c.descend.ensures.front,
-      made.1.place_is ∙ (ap (λ (k : YardPlan). k.first + length (v.front ++ made.0)) c.descend.ensures.of.0.1 ∙ ap (λ (l : List Event). c.args.table.now.plan.first + length l) (sym front)),
-    )
+    let front = c.give_back.ensures.front ∙ ap (λ (u : View). u.front) made.2 in
+    made.1.place_is ∙ (ap (λ (k : YardPlan). k.first + length (v.front ++ made.0)) c.descend.ensures.of.0.1 ∙ ap (λ (l : List Event). c.args.table.now.plan.first + length l) (sym front))
 
 pub returns-clause-none : goal.returns-clause-none
 returns-clause-none c r =
