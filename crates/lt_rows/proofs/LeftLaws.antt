@@ -15,8 +15,17 @@ use Rattle.lt_forest.specs.Forest.{Forest, Growth, rows_at, IsTree, IsChain, fol
 use Rattle.lt_forest.proofs.Chains.{total_has, chain_one}
 use Rattle.lt_forest.proofs.ForestLaws.{TreeAt, ChainAt, as_tree, as_chain}
 use Rattle.lt_forest.proofs.FurtherRows.{in_tree_further}
+use Rattle.atomic_table.specs.Table.{Final, Seen}
+use Rattle.lt_seq.specs.History.{after}
+use Rattle.lt_seq.specs.SeqPass.{plain}
+use Rattle.lt_rows.specs.declared.view.Row.{Row}
+use Rattle.lt_rows.specs.declared.view.View.{View}
 use Rattle.lt_rows.specs.declared.last_words.LastWords.{LastWords}
-use Rattle.lt_rows.specs.Nodes.{node_of, mode_of, mode_by, modes}
+use Rattle.lt_rows.specs.Views.{Holds, rows_of}
+use Rattle.lt_rows.specs.Rule.{Rows}
+use Rattle.lt_rows.specs.Woods.{woods}
+use Rattle.lt_rows.proofs.Closes.{left_stands}
+use Rattle.lt_rows.specs.Nodes.{node_of, mode_of, mode_by, nodes, modes}
 use Rattle.lt_rows.specs.Openings.{row_words}
 use Rattle.lt_rows.specs.LastWords.{words_in, nodes_in, AllBelow, AreRows, LeadsToTree, LeadsToChain, IsLastForest}
 
@@ -102,3 +111,15 @@ one_more_tree state t left more lt is adds =
     adds ∙ (ap (λ l. l ++ held_in t (tree_at state t).pairs) is
     ∙ ((ap (λ m. held_from 0 (take t state) ++ held_in m (tree_at state t).pairs) (let e : t ≡ 0 + t = omega arith in e) ∙ sym (held_more 0 state t lt))
     ∙ ap (λ m. held_from 0 (take m state)) (let e : suc t ≡ t + 1 = omega arith in e)))
+
+-- where a pass had all the rights and no row, the last words are a forest of the table after what it has seen
+pub last_forest : (k plan : YardPlan) (last : LastWords) (words : List ℕ) (homes : List (Unit {0})) (id n : ℕ) (v : View) → k ≡ plan → words_in last ≡ words
+    → last.rows ≡ rows_of plan → v.rights ≡ n → n ≡ plan.passes → ((r : ℕ) (row : Row) → Holds v r row → ⊥)
+    → Final (Seen (Rows (woods k) k) id v) words homes → IsLastForest plan last (after (plain plan) v.front)
+last_forest k plan last words homes id n v is words_are rows rights all none final =
+    let ends = left_stands k words homes id v (rights ∙ (all ∙ ap (λ (y : YardPlan). y.passes) (sym is))) none final in
+    subst (λ (y : YardPlan). IsLastForest y last (after (plain y) v.front)) is (record {
+      rows_are = rows ∙ ap rows_of (sym is);
+      forest = ends.0;
+      stands = subst (λ (ws : List ℕ). IsForest k.trees (rows_of k) (nodes (row_words ws)) (modes (row_words ws)) (after (plain k) v.front) ends.0) (sym words_are) ends.1;
+    })
