@@ -28,7 +28,7 @@ use Rattle.lt_rows.specs.declared.view.View.{View}
 use Rattle.lt_rows.specs.declared.view.Row.{Row}
 use Rattle.lt_rows.specs.declared.take.Take.TheVariants.{Taken}
 use Rattle.lt_rows.specs.declared.image.RowImage.{RowImage}
-use Rattle.lt_rows.specs.Nodes.{key_of, node_of, mode_of}
+use Rattle.lt_rows.specs.Nodes.{key_of, upwards, node_of, mode_of}
 use Rattle.lt_rows.specs.Views.{Holds, row_at, words_of, has, images, image_of, with_row, planned_rows, planned_contents, committed, settled}
 use Rattle.lt_rows.specs.Gaps.{gap_for, new_gaps}
 use Rattle.lt_rows.specs.Handles.{Tries}
@@ -275,7 +275,7 @@ one_same ws i x le =
     let high = part_same 9 8 ws i x (omega arith) in
     let left = get_or-set_other ws i 17 x 0 (λ e. omega arith) in
     let right = get_or-set_other ws i 18 x 0 (λ e. omega arith) in
-    λ j. record { owner = owner j; range = record { left = key_of (low j); right = key_of (high j) }; left = left j; right = right j }
+    λ j. record { owner = owner j; range = upwards (key_of (low j)) (key_of (high j)); left = left j; right = right j }
 
 pub estimates_aside : (ws : List ℕ) (a b : ℕ) → node_of (set (set ws 19 a) 20 b) ≡ node_of ws
 estimates_aside ws a b = one_same (set ws 19 a) 20 b (omega arith) ∙ one_same ws 19 a (omega arith)
