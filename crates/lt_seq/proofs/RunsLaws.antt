@@ -54,7 +54,8 @@ lawful_one p q rest lawful = (ordered p.range q.range lawful.0 lawful.2.0 lawful
     after_right [] all = tt
     after_right (r ∷ rs) all = (all.0, after_right rs all.1)
 
-kept_joined : (marks : List Key) (last next : Pair) → IsInterval last.range → IsInterval next.range → before last.range next.range ≡ true → true ≡ are_joined marks last next → kept marks last next ≡ one last next
+kept_joined : (marks : List Key) (last next : Pair) → IsInterval last.range → IsInterval next.range → before last.range next.range ≡ true
+    → true ≡ are_joined marks last next → kept marks last next ≡ one last next
 kept_joined marks last next o k h e =
     ap (λ b. record { owner = last.owner; range = if b then hull last.range next.range else last.range }) (sym e)
     ∙ ap (λ range. record { owner = last.owner; range = range }) (hull-before last.range next.range o k h)
@@ -63,12 +64,15 @@ kept_apart : (marks : List Key) (last next : Pair) → false ≡ are_joined mark
 kept_apart marks last next e = ap (λ b. record { owner = last.owner; range = if b then hull last.range next.range else last.range }) (sym e)
 
 module _ {F : Type 0} (R : F → Pair → Pair → Bool → F → Pair → Pair → Type 0) (marks : List Key) (f : F)
-    (h : (next last : Pair) (b : Bool) (f' : F) (next' last' : Pair) → R f next last b f' next' last' → (b ≡ are_joined marks last next) × (f' ≡ f) × (next' ≡ next) × (last' ≡ kept marks last next)) where
+    (h : (next last : Pair) (b : Bool) (f' : F) (next' last' : Pair) → R f next last b f' next' last'
+    → (b ≡ are_joined marks last next) × (f' ≡ f) × (next' ≡ next) × (last' ≡ kept marks last next)) where
   joined_from : (rest : List Pair) (g : F) (last : Pair) (ys : List Pair) → g ≡ f → IsLawful (last ∷ rest) → DedupsFrom R g last rest ys → ys ≡ joined marks (last ∷ rest)
   joined_from [] g last ys e lawful told = told
   joined_from (next ∷ rest) g last ys e lawful told =
       let call = h next last told.0 told.1 told.2 told.3 (subst (λ (state : F). R state next last told.0 told.1 told.2 told.3) e told.4) in
-      elim told.0 as (λ b. b ≡ are_joined marks last next → MatchBool b (DedupsFrom R told.1 told.3 rest ys) ((zs : List Pair) × DedupsFrom R told.1 told.2 rest zs × (ys ≡ told.3 ∷ zs)) → ys ≡ joined marks (last ∷ next ∷ rest)) [
+      elim told.0 as (λ b. b ≡ are_joined marks last next
+      → MatchBool b (DedupsFrom R told.1 told.3 rest ys) ((zs : List Pair) × DedupsFrom R told.1 told.2 rest zs × (ys ≡ told.3 ∷ zs))
+      → ys ≡ joined marks (last ∷ next ∷ rest)) [
         | true ↦ λ are left.
             let is : told.3 ≡ one last next = call.3 ∙ kept_joined marks last next lawful.0 lawful.2.0 lawful.1.0 are in
             joined_from rest told.1 (one last next) ys call.1 (lawful_one last next rest lawful) (subst (λ l. DedupsFrom R told.1 l rest ys) is left)

@@ -1,5 +1,6 @@
 -- The pairs of a lawful list that overlap a range stand side by side.
-use Rattle.std.proofs.Common.{◌≡◌, ℕ, zero, suc, ◌+◌, ◌-◌, ◌<◌, ◌≤◌, List, [], ◌∷◌, ◌++◌, map, length, take, drop, get_or, set, Bool, true, false, not, ◌&&◌, ◌==◌, if◌then◌else◌, ◌⊎◌, inl, inr, refl, sym, ap, subst, ◌∙◌, arith}
+use Rattle.std.proofs.Common.{◌≡◌, ℕ, zero, suc, ◌+◌, ◌-◌, ◌<◌, ◌≤◌, List, [], ◌∷◌, ◌++◌, map, length, take, drop, get_or, set}
+use Rattle.std.proofs.Common.{Bool, true, false, not, ◌&&◌, ◌==◌, if◌then◌else◌, ◌⊎◌, inl, inr, refl, sym, ap, subst, ◌∙◌, arith}
 use Rattle.std.specs.List.{All, AllWithin, between, filter, fold, remove_range}
 use borrow.Rule.Slice.PartMut.{put_mid, post_of}
 use Rattle.std.proofs.Math.Seq.{take-append-add}
@@ -103,11 +104,11 @@ parts : (range : Interval) (pairs : List Pair) (start end : ℕ) → IsWindow ra
 parts range pairs start end window = record {
   whole = split_between pairs start end window.ordered;
   front_apart = λ k d h. let lt : k < start = omega (arith, length-take start pairs) in
-    rw (get_or-take start pairs k d lt) (before-overlap (get_or pairs k d).range range (window.front k d (omega arith) lt));
+      rw (get_or-take start pairs k d lt) (before-overlap (get_or pairs k d).range range (window.front k d (omega arith) lt));
   inside_meets = λ k d h. let lt : start + k < end = omega (arith, length-between pairs start end window.within) in
-    rw (get_or-between pairs start end k d lt) (window.inside (start + k) d (omega arith) lt);
+      rw (get_or-between pairs start end k d lt) (window.inside (start + k) d (omega arith) lt);
   behind_apart = λ k d h. let lt : end + k < length pairs = omega (arith, length-drop end pairs) in
-    rw (get_or-drop end pairs k d) (overlap_back (get_or pairs (end + k) d).range range ∙ before-overlap range (get_or pairs (end + k) d).range (window.behind (end + k) d (omega arith) lt));
+      rw (get_or-drop end pairs k d) (overlap_back (get_or pairs (end + k) d).range range ∙ before-overlap range (get_or pairs (end + k) d).range (window.behind (end + k) d (omega arith) lt));
 }
 
 -- what a filter keeps of a part where its test is known
@@ -229,18 +230,18 @@ granted_between txn range pairs start end o lawful window none =
     let nobody : filter (λ p. not (p.owner == txn)) met ≡ [] = sym (others_met txn range pairs start end window) ∙ none_left _ none in
     let mine : filter (is_own txn range) pairs ≡ met = own_met txn range pairs start end window ∙ all_own txn met nobody in
     let stays : freed txn range pairs ≡ take start pairs ++ drop end pairs =
-      freed_around txn range pairs start end window ∙ ap (λ l. take start pairs ++ (l ++ drop end pairs)) nobody in
+    freed_around txn range pairs start end window ∙ ap (λ l. take start pairs ++ (l ++ drop end pairs)) nobody in
     let front : All (λ p. key_le p.range.left covering.left ≡ true) (take start pairs) = λ k d h.
-      let lt : k < start = omega (arith, length-take start pairs) in
-      rw (get_or-take start pairs k d lt)
-      (begins_left (get_or pairs k d).range covering (ordered_at pairs k d lawful (omega (arith, window.ordered, window.within)))
-        (span_behind (get_or pairs k d).range range met (window.front k d (omega arith) lt)
-          (λ j e i. let high : start + j < end = omega (arith, length-between pairs start end window.within) in
-            rw (get_or-between pairs start end j e high) (before_at pairs k (start + j) d e lawful (omega arith) (omega (arith, window.within)))))) in
+    let lt : k < start = omega (arith, length-take start pairs) in
+    rw (get_or-take start pairs k d lt)
+    (begins_left (get_or pairs k d).range covering (ordered_at pairs k d lawful (omega (arith, window.ordered, window.within)))
+    (span_behind (get_or pairs k d).range range met (window.front k d (omega arith) lt)
+    (λ j e i. let high : start + j < end = omega (arith, length-between pairs start end window.within) in
+    rw (get_or-between pairs start end j e high) (before_at pairs k (start + j) d e lawful (omega arith) (omega (arith, window.within)))))) in
     let behind : All (λ p. key_le p.range.left covering.left ≡ false) (drop end pairs) = λ k d h.
-      let lt : end + k < length pairs = omega (arith, length-drop end pairs) in
-      rw (get_or-drop end pairs k d)
-      (begins_right range (get_or pairs (end + k) d).range covering.left o (window.behind (end + k) d (omega arith) lt) (span_begins range range met (le_itself range.left))) in
+    let lt : end + k < length pairs = omega (arith, length-drop end pairs) in
+    rw (get_or-drop end pairs k d)
+    (begins_right range (get_or pairs (end + k) d).range covering.left o (window.behind (end + k) d (omega arith) lt) (span_begins range range met (le_itself range.left))) in
     (λ i. with_pair (record { owner = txn; range = fold (λ r p. hull r p.range) range (mine i) }) (stays i))
     ∙ with_pair_after new (take start pairs) (drop end pairs) front
     ∙ ap (λ l. take start pairs ++ l) (with_pair_before new (drop end pairs) behind)
@@ -252,9 +253,9 @@ removed_inside pairs met start end kept h k same le =
     let now = put_mid start (end - start) pairs met in
     let behind : drop end now ≡ drop end pairs = drop-put_mid start (end - start) pairs met end (omega arith) (omega arith) same in
     let front : take (start + kept) now ≡ take start pairs ++ take kept met =
-      ap (λ n. take (n + kept) now) (sym (length-take-le start pairs (omega arith)))
-      ∙ take-append-add (take start pairs) (met ++ post_of start (end - start) pairs) kept
-      ∙ ap (λ l. take start pairs ++ l) (take-append-le kept met (post_of start (end - start) pairs) le) in
+    ap (λ n. take (n + kept) now) (sym (length-take-le start pairs (omega arith)))
+    ∙ take-append-add (take start pairs) (met ++ post_of start (end - start) pairs) kept
+    ∙ ap (λ l. take start pairs ++ l) (take-append-le kept met (post_of start (end - start) pairs) le) in
     (λ i. front i ++ behind i) ∙ append_assoc (take start pairs) (take kept met) (drop end pairs)
 
 -- a pair put in the place of those that it covers

@@ -20,7 +20,7 @@ pub use event::{Deed, Event, Held, JoinNote, Look, Mode, Pair, Receipt, Reply};
 pub use fault::Fault;
 pub use lists::{HeldList, Owners};
 pub use pairs::{add_held, grant};
-pub use plan::YardPlan;
+pub use plan::{PLACES_END, YardPlan};
 pub use runs::{JoinCounts, join_pairs};
 pub use seq_note::SeqNote;
 pub use seq_yard::SeqYard;

@@ -7,7 +7,7 @@ use crate::event::Pair;
 use lt_ranges::Key;
 
 /// How many pairs a tree had before a join, and has after it.
-#[derive(Clone, Copy, Debug, PartialEq, Eq)]
+#[derive(Clone, Copy, Debug, PartialEq, Eq, Hash)]
 pub struct JoinCounts {
     pub before: u64,
     pub after: u64,

@@ -11,7 +11,7 @@ use crate::event::{Deed, Event, JoinNote, Look, Receipt};
 use crate::fault::Fault;
 use crate::lists::HeldList;
 use crate::pairs::add_held;
-use crate::plan::YardPlan;
+use crate::plan::{PLACES_END, YardPlan};
 use crate::seq_note::SeqNote;
 use crate::seq_trees::SeqTrees;
 use crate::yard::{Closed, Pass};
@@ -19,9 +19,6 @@ use lt_ranges::KeyRange;
 use std::alloc::{AllocError, Global};
 use std::marker::Model;
 use std::mem;
-
-/// The place from which on no call makes an event.
-const PLACES_END: u64 = 1 << 39;
 
 /// The one pass of a plain table. It holds the table, and its own calls are the whole history.
 #[derive(Drop)]

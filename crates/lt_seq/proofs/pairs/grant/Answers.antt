@@ -28,7 +28,7 @@ returns-else-start-end-clause-ok c =
     let less : start < end = omega (arith, window.ordered) in
     let is : c.drop.new.self.0.items ≡ remove_range (set pairs start (record { owner = c.args.txn; range = c.span_of.result })) (start + 1) end = search rules in
     let put : c.drop.new.self.0.items ≡ granted c.args.txn c.args.range.now pairs =
-      is ∙ put_over pairs (record { owner = c.args.txn; range = c.span_of.result }) start end less window.within
-      ∙ ap (λ range. take start pairs ++ (record { owner = c.args.txn; range = range } ∷ drop end pairs)) span
-      ∙ sym (granted_between c.args.txn c.args.range.now pairs start end c.window-start.ensures.range c.requires.lawful window c.requires.unopposed) in
+    is ∙ put_over pairs (record { owner = c.args.txn; range = c.span_of.result }) start end less window.within
+    ∙ ap (λ range. take start pairs ++ (record { owner = c.args.txn; range = range } ∷ drop end pairs)) span
+    ∙ sym (granted_between c.args.txn c.args.range.now pairs start end c.window-start.ensures.range c.requires.lawful window c.requires.unopposed) in
     search rules
