@@ -1,5 +1,5 @@
 -- Sharing, learning and the events of a pass that has all the rights keep a table's rights and fronts.
-use Rattle.std.proofs.Common.{◌≡◌, ◌⊎◌, ℕ, zero, suc, ◌+◌, ◌-◌, ◌<◌, ◌≤◌, List, [], ◌∷◌, ◌++◌, length, sum_by, refl, sym, ap, subst, ◌∙◌, arith, inl, inr, length-append, append_assoc}
+use Rattle.std.proofs.Common.{◌≡◌, ◌⊎◌, ℕ, zero, suc, ◌+◌, ◌-◌, ◌≤◌, List, [], ◌∷◌, ◌++◌, length, sum_by, refl, sym, ap, subst, ◌∙◌, arith, inl, inr, length-append}
 use Rattle.std.specs.List.{All, Any, Contains}
 use Rattle.std.proofs.lemmas.List.{append-nil}
 use Rattle.std.proofs.lemmas.List.Elements.{All-cons, All-head, All-tail, All-weaker}
@@ -11,7 +11,6 @@ use Rattle.lt_seq.specs.Table.{Setting}
 use Rattle.lt_seq.specs.History.{IsFront}
 use Rattle.lt_seq.specs.Yard.{PassView, NoteView, HasAll, Shares, Learns, IsLonger, OneMore}
 use Rattle.lt_seq.specs.Passes.{PassSeesAll, NoteSeesAll, RightsAndFronts}
-use Rattle.lt_seq.proofs.HistoryLaws.{front_itself}
 use Rattle.lt_seq.proofs.YardLaws.{front_then}
 use Rattle.lt_seq.proofs.PassesLaws.{all_has_whole}
 

@@ -1,6 +1,6 @@
 -- The pairs of a lawful list that overlap a range stand side by side.
-use Rattle.std.proofs.Common.{◌≡◌, ℕ, zero, suc, ◌+◌, ◌-◌, ◌<◌, ◌≤◌, List, [], ◌∷◌, ◌++◌, map, length, take, drop, get_or, set}
-use Rattle.std.proofs.Common.{Bool, true, false, not, ◌&&◌, ◌==◌, if◌then◌else◌, ◌⊎◌, inl, inr, refl, sym, ap, subst, ◌∙◌, arith}
+use Rattle.std.proofs.Common.{◌≡◌, ℕ, zero, suc, ◌+◌, ◌-◌, ◌<◌, ◌≤◌, List, [], ◌∷◌, ◌++◌, length, take, drop, get_or, set}
+use Rattle.std.proofs.Common.{Bool, true, false, not, ◌==◌, if◌then◌else◌, ◌⊎◌, inl, inr, refl, sym, ap, subst, ◌∙◌, arith}
 use Rattle.std.specs.List.{All, AllWithin, between, filter, fold, remove_range}
 use borrow.Rule.Slice.PartMut.{put_mid, post_of}
 use Rattle.std.proofs.Math.Seq.{take-append-add}
@@ -8,7 +8,6 @@ use Rattle.std.proofs.lemmas.Slice.{drop-put_mid}
 use Rattle.std.specs.List.Sorted.{IsPartitionedBy, IsPartitionPoint}
 use Rattle.std.proofs.Math.Nat.{eq-or-lt_of_le}
 use Rattle.std.proofs.lemmas.Bool.{cases_order}
-use Rattle.std.proofs.lemmas.Bool.Decides.{nat_tests}
 use Rattle.std.proofs.lemmas.List.{get_or-take, get_or-drop, length-take, length-drop, length-take-le, length-append, take_at, append-nil, append_assoc, drop-set-lt, take-append-le, take_more_set}
 use Rattle.std.proofs.lemmas.List.Edits.{get_or-between, length-between, split_between}
 use Rattle.std.proofs.lemmas.List.Elements.{All-head, All-tail, All-weaker, filter-append}
@@ -18,7 +17,7 @@ use Rattle.lt_ranges.specs.Interval.{Interval, IsInterval, overlap, before, hull
 use Rattle.lt_ranges.proofs.KeyLaws.{le_itself, le_trans, le_total}
 use Rattle.lt_ranges.proofs.IntervalLaws.{before-overlap, overlap_back, before_hull}
 use Rattle.lt_seq.specs.declared.event.Pair.{Pair}
-use Rattle.lt_seq.specs.Pairs.{AllAfter, IsLawful, is_own, is_others, others, freed, count_freed, span, with_pair, granted}
+use Rattle.lt_seq.specs.Pairs.{AllAfter, IsLawful, is_own, is_others, others, freed, with_pair, granted}
 use Rattle.lt_seq.specs.Window.{IsWindow}
 use Rattle.lt_seq.proofs.SpanLaws.{none_left}
 

@@ -1,4 +1,4 @@
-use Rattle.std.proofs.Common.{◌≡◌, ◌≤◌, ◌<◌, ◌+◌, ◌∷◌, ◌++◌, take, drop, set, ap, sym, ◌∙◌, rules, arith}
+use Rattle.std.proofs.Common.{◌≡◌, ◌<◌, ◌+◌, ◌∷◌, ◌++◌, take, drop, set, ap, sym, ◌∙◌, rules, arith}
 use Rattle.std.specs.List.{remove_range, fold, between}
 use Rattle.lt_ranges.specs.Interval.{hull}
 use Rattle.lt_seq.specs.Pairs.{granted}

@@ -1,6 +1,6 @@
-use Rattle.std.proofs.Common.{◌≡◌, ◌∙◌, [], length, slice_set, ap, subst, sym, arith, rules, refl, ◌+◌}
+use Rattle.std.proofs.Common.{◌≡◌, ◌∙◌, [], length, slice_set, ap, arith, rules, refl, ◌+◌}
 use Rattle.lt_seq.specs.declared.event.Deed.TheVariants.{Join}
-use Rattle.lt_seq.specs.Pairs.{joined, IsLawful}
+use Rattle.lt_seq.specs.Pairs.{joined}
 use Rattle.lt_seq.specs.SeqPass.{IsSequential}
 use Rattle.lt_seq.specs.Table.{tree_at, ended}
 use Rattle.lt_seq.proofs.SeqLaws.{trees_there, lawful_there, sequential_to, sound_of, length-events_of}
