@@ -4,7 +4,10 @@ pub mod Attempt
 pub mod Plays
 pub mod Serial
 pub mod Rows
+pub mod RandomTraces
+pub mod RandomJoins
 pub mod Run
+pub mod LeftOut
 pub mod Played
 pub mod Steps
 pub mod AtOnce

@@ -2,6 +2,9 @@
 ghost use Rattle.std.specs.Prelude.{ℕ, false};
 ghost use Rattle.lt_trace.specs.Grammar.{IsTrace};
 ghost use Rattle.lt_trace.specs.Trace.{TraceView};
+ghost use Rattle.lt_runner.specs.LeftOut.{LeavesOneOut};
+ghost use Rattle.lt_runner.specs.RandomJoins.{RandomJoins};
+ghost use Rattle.lt_runner.specs.RandomTraces.{RandomTraces};
 ghost use Rattle.lt_runner.specs.Rows.{Rows};
 ghost use Rattle.lt_runner.specs.Run.{IsRunText};
 ghost use Rattle.lt_runner.specs.Serial.{ran_text, serial, setting_of};
@@ -16,4 +19,21 @@ pub fn worked_rows()
 /// other owners.
 pub fn serial_is_a_run()
     ensures { (trace : TraceView) (first : ℕ) → IsTrace trace → IsRunText false (setting_of trace 1 first) trace.lines (ran_text (serial trace first)) }
+{}
+
+/// One that was held at its line is registered while its search goes on: a history in which another's search leaves it
+/// out is no run, though all else in it is as it must be.
+pub fn registered_while_searching()
+    ensures { LeavesOneOut }
+{}
+
+/// The plain scheduler writes what an independent reading of the rules says of random traces: deadlocks, some of them at
+/// a retry, several wishes, buffers, and other first places than 0.
+pub fn random_traces()
+    ensures { RandomTraces }
+{}
+
+/// It does so of random traces with joins where there is no room, escalate lines and big transactions.
+pub fn random_joins()
+    ensures { RandomJoins }
 {}
