@@ -1,6 +1,7 @@
 //! How runs end, and their text.
 #![tactic(auto)]
 
+pub mod laws;
 mod outcome;
 mod transcript;
 

@@ -1,0 +1,8 @@
+//! Laws of texts.
+ghost use Rattle.lt_history.specs.RandomTables.{RandomTables};
+
+/// The table answers questions of random tables as an independent reading of the rules says, and leaves the modes that it
+/// says: among them questions that end another's buffer.
+pub fn random_tables()
+    ensures { RandomTables }
+{}
