@@ -1,13 +1,11 @@
 -- What the plain scheduler does at a line is a move, whatever the transaction did before.
-use Rattle.std.proofs.Common.{◌≡◌, ◌≢◌, ℕ, zero, suc, ◌+◌, ◌<◌, ◌≤◌, List, [], ◌∷◌, ◌++◌, map, Bool, true, false, ◌==◌, ◌&&◌, ◌||◌, not, if◌then◌else◌, Option, Some, None, is_some, nat_lt, IsTrue, length, refl, sym, ap, subst, ◌∙◌, arith, append-nil, append_assoc}
-use Rattle.std.specs.List.{AllByRecursion, list_any, filter}
+use Rattle.std.proofs.Common.{◌≡◌, ℕ, zero, suc, ◌+◌, ◌<◌, ◌≤◌, List, [], ◌∷◌, ◌++◌, Bool, true, false, ◌==◌, ◌&&◌, ◌||◌, not, if◌then◌else◌, None, nat_lt, length, refl, sym, ap, subst, ◌∙◌, arith, append-nil, append_assoc}
+use Rattle.std.specs.List.{AllByRecursion}
 use Rattle.std.proofs.lemmas.Bool.Decides.{nat_tests}
 use Rattle.std.proofs.lemmas.List.{length-append, map-append}
 use Rattle.lt_ranges.specs.Interval.{Interval, IsInterval}
-use Rattle.lt_seq.specs.declared.event.Deed.{Deed}
-use Rattle.lt_seq.specs.declared.event.Deed.TheVariants.{Ask, Free, Who, Join}
-use Rattle.lt_seq.specs.declared.event.Reply.{Reply}
-use Rattle.lt_seq.specs.declared.event.Reply.TheVariants.{Granted, Buffered, HeldBy}
+use Rattle.lt_seq.specs.declared.event.Deed.TheVariants.{Ask, Free, Join}
+use Rattle.lt_seq.specs.declared.event.Reply.TheVariants.{Granted}
 use Rattle.lt_seq.specs.declared.event.Event.{Event}
 use Rattle.lt_seq.specs.declared.event.Receipt.{Receipt}
 use Rattle.lt_seq.specs.Table.{Setting, used}
@@ -18,16 +16,14 @@ use Rattle.lt_seq.specs.Questions.{question, receipt_after, events_of, named_by}
 use Rattle.lt_trace.specs.declared.line.Line.{Line}
 use Rattle.lt_trace.specs.declared.line.LineDeed.{LineDeed}
 use Rattle.lt_trace.specs.declared.line.LineDeed.TheVariants.{Try, Lock, End, Abort, Escalate, Big}
-use Rattle.lt_trace.specs.Grammar.{is_last}
-use Rattle.lt_requests.specs.declared.wish.Wish.{Wish}
-use Rattle.lt_requests.specs.Search.{IsSearch, searched, wishes_of}
+use Rattle.lt_requests.specs.Search.{searched, wishes_of}
 use Rattle.lt_runner.specs.declared.release.Release.{Release}
 use Rattle.lt_runner.specs.TurnView.{Turn, Seat}
-use Rattle.lt_runner.specs.Turn.{Move, leaves, asks, waits, stops, escalates, grows, ends, frees, receipts_in, turn_after, reply_in}
-use Rattle.lt_runner.specs.Attempt.{behind, bar_of, used_at, HasRoom, IsFull, AreOfTrees, AreJoins, IsAttempt, IsStop}
-use Rattle.lt_runner.specs.Plays.{Past, Stage, stage_after, behind_move, is_leaving, MayDo, MayFree, IsMove, is_held, is_ask, AreWishes}
+use Rattle.lt_runner.specs.Turn.{Move, asks, waits, stops, frees, receipts_in, turn_after, reply_in}
+use Rattle.lt_runner.specs.Attempt.{behind, bar_of, used_at, IsFull, AreOfTrees, AreJoins, IsAttempt}
+use Rattle.lt_runner.specs.Plays.{Past, behind_move, is_leaving, MayDo, MayFree, IsMove, is_held, is_ask, AreWishes}
 use Rattle.lt_runner.specs.Serial.{Game, ask_move, joins_of, behind_joins, attempt, line_move}
-use Rattle.lt_runner.specs.Played.{AreInside, IsInside, IsLate, IsPastAt, MovesBy}
+use Rattle.lt_runner.specs.Played.{AreInside, IsInside, IsLate, MovesBy}
 use Rattle.lt_runner.specs.Steps.{IsFitDeed}
 use Rattle.lt_runner.proofs.PlayLaws.{used_here, room_here, full_here, longer}
 use Rattle.lt_runner.proofs.CallLaws.{AreCalls, calls_both, calls_inside, behind_calls}

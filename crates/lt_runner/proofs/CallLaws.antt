@@ -1,10 +1,8 @@
 -- Calls of one pass that is alone: one behind another, each as the table replies.
-use Rattle.std.proofs.Common.{◌≡◌, ◌≢◌, ℕ, zero, suc, ◌+◌, ◌-◌, ◌<◌, ◌≤◌, List, [], ◌∷◌, ◌++◌, map, Bool, true, false, ◌==◌, ◌&&◌, ◌||◌, not, if◌then◌else◌, IsTrue, length, refl, sym, ap, subst, ◌∙◌, arith, append-nil, append_assoc, eq-eqb}
-use Rattle.std.specs.List.{AllByRecursion, filter}
-use Rattle.std.proofs.lemmas.List.{length-append, map-append}
+use Rattle.std.proofs.Common.{◌≡◌, ◌≢◌, ℕ, ◌+◌, ◌<◌, ◌≤◌, List, [], ◌∷◌, ◌++◌, Bool, true, false, ◌==◌, if◌then◌else◌, length, refl, sym, ap, subst, ◌∙◌, arith, append-nil, append_assoc, eq-eqb}
+use Rattle.std.specs.List.{AllByRecursion}
+use Rattle.std.proofs.lemmas.List.{length-append}
 use Rattle.std.proofs.lemmas.Bool.Decides.{nat_tests}
-use Rattle.lt_ranges.specs.Interval.{Interval, IsInterval}
-use Rattle.lt_ranges.specs.Numbers.{is_in}
 use Rattle.lt_seq.specs.declared.event.Deed.{Deed}
 use Rattle.lt_seq.specs.declared.event.Deed.TheVariants.{Ask, Free, Who, Join}
 use Rattle.lt_seq.specs.declared.event.Event.{Event}
@@ -15,7 +13,7 @@ use Rattle.lt_seq.specs.Yard.{place_after, event_after}
 use Rattle.lt_seq.specs.Questions.{receipt_after, receipts_of, events_of}
 use Rattle.lt_seq.proofs.HistoryLaws.{legal_more}
 use Rattle.lt_runner.specs.Attempt.{behind}
-use Rattle.lt_runner.proofs.TurnsLaws.{on_true, on_false}
+use Rattle.lt_runner.proofs.ChoiceLaws.{on_true, on_false}
 
 -- the receipt of a call behind these events, at a tree that is there
 pub record IsCall (setting : Setting) (txn : ℕ) (events : List Event) (r : Receipt) : Type 0 where

@@ -1,6 +1,5 @@
 -- What a transaction has come to stays while others act, and goes on by a move of its own.
-use Rattle.std.proofs.Common.{◌≡◌, ℕ, ◌+◌, ◌<◌, ◌≤◌, List, [], ◌∷◌, ◌++◌, Bool, refl, sym, ap, subst, ◌∙◌, arith}
-use Rattle.std.specs.List.{AllByRecursion, flat_map}
+use Rattle.std.proofs.Common.{ℕ, List, [], ◌∷◌, ◌++◌, Bool, refl, sym, ap, subst, ◌∙◌, arith}
 use Rattle.lt_seq.specs.declared.event.Event.{Event}
 use Rattle.lt_seq.specs.declared.event.Receipt.{Receipt}
 use Rattle.lt_seq.specs.Table.{Setting}
@@ -8,7 +7,7 @@ use Rattle.lt_seq.specs.History.{IsFront}
 use Rattle.lt_seq.specs.Yard.{place_after}
 use Rattle.lt_runner.specs.TurnView.{Turn, Seat}
 use Rattle.lt_runner.specs.Turn.{Move, leaves, asks, waits, stops, escalates, grows, ends, frees, receipts_in, turn_after}
-use Rattle.lt_runner.specs.Plays.{Past, Stage, stage_after, stage_after_all, IsMove, ArePlayed}
+use Rattle.lt_runner.specs.Plays.{Past, Stage, stage_after, stage_after_all, IsMove}
 use Rattle.lt_runner.specs.Played.{IsInside, IsPastAt, HasCome, MovesBy, Search, IsAmong, Fits, IsAtLine}
 use Rattle.lt_runner.proofs.PlayLaws.{played_more, played_stays, longer, all_more, after_more, flat_more, all_inside}
 use Rattle.lt_runner.proofs.SearchLaws.{listed_still}

@@ -1,5 +1,5 @@
 -- Where a game in which none is ready is one in which all have ended, the run plays all to their end.
-use Rattle.std.proofs.Common.{◌≡◌, ◌≢◌, ℕ, zero, suc, ◌+◌, ◌<◌, ◌≤◌, List, [], ◌∷◌, ◌++◌, map, Bool, true, false, ◌==◌, ◌||◌, not, ◌&&◌, if◌then◌else◌, Option, Some, None, is_some, is_none, length, nat_cmp, refl, sym, ap, subst, ◌∙◌, arith, eq-eqb}
+use Rattle.std.proofs.Common.{◌≡◌, ℕ, suc, ◌+◌, ◌≤◌, List, [], ◌∷◌, ◌++◌, map, Bool, true, false, ◌==◌, ◌||◌, not, ◌&&◌, if◌then◌else◌, Option, Some, None, is_some, is_none, length, nat_cmp, refl, sym, ap, subst, ◌∙◌, arith, eq-eqb}
 use Rattle.std.specs.List.{AllByRecursion, fold, find}
 use Rattle.std.specs.List.Sorted.{IsStrictlySortedBy}
 use Rattle.std.proofs.lemmas.Bool.Decides.{nat_tests}
@@ -7,19 +7,18 @@ use Rattle.lt_ranges.specs.Numbers.{is_in}
 use Rattle.lt_seq.specs.Table.{Setting}
 use Rattle.lt_trace.specs.declared.line.Line.{Line}
 use Rattle.lt_trace.specs.declared.line.LineDeed.{LineDeed}
-use Rattle.lt_trace.specs.declared.line.LineDeed.TheVariants.{Try, Lock, End, Abort, Escalate, Big}
-use Rattle.lt_history.specs.declared.outcome.Outcome.{Outcome}
+use Rattle.lt_trace.specs.declared.line.LineDeed.TheVariants.{End}
 use Rattle.lt_runner.specs.TurnView.{Turn}
 use Rattle.lt_runner.specs.Turn.{ends, turn_after, ended_at}
 use Rattle.lt_runner.specs.Plays.{end_of}
 use Rattle.lt_runner.specs.Played.{IsOver}
-use Rattle.lt_runner.specs.Serial.{Game, turn_of, with_turn, is_waiting, is_ready, line_move, does, settles, plays_line, plays_next, added, settled, takes_line, ends_first, ends_one, opening_game, played}
-use Rattle.lt_runner.specs.Steps.{IsSteady, IsFitLine, IsFit, IsInOrder, IsTurnOf, IsAtLine, KeepsMoves, KeepsSteps, takes}
-use Rattle.lt_runner.proofs.TurnsLaws.{on_true, on_false}
+use Rattle.lt_runner.specs.Serial.{Game, turn_of, is_waiting, is_ready, line_move, does, plays_line, added, takes_line, ends_first, ends_one, opening_game, played}
+use Rattle.lt_runner.specs.Steps.{IsSteady, IsFit, IsInOrder, IsTurnOf, IsAtLine, KeepsMoves, KeepsSteps, takes}
+use Rattle.lt_runner.proofs.ChoiceLaws.{on_true, on_false}
 use Rattle.lt_runner.proofs.SteadyLaws.{numbers, turn_of_txn, turn_of_with, turn_of_other, turn_has, ready_goes, never, steady_taking}
-use Rattle.lt_runner.proofs.MoveLaws.{Holds, KeepsOf, AnyOne, are_of, the_turn, turn_after_does, in_order_with, holds_plays, holds_settles, holds_settled}
+use Rattle.lt_runner.proofs.MoveLaws.{AnyOne, are_of, the_turn, turn_after_does, in_order_with, holds_plays, holds_settles, holds_settled}
 use Rattle.lt_runner.proofs.IdleLaws.{AreAtRest, keeps_nothing, keeps_ended, rest_added}
-use Rattle.lt_runner.proofs.StepLaws.{HoldsBetween, IsFound, found_ready, holds_all_taken, holds_ends_one, holds_all_ended, opening_at_rest}
+use Rattle.lt_runner.proofs.StepLaws.{HoldsBetween, found_ready, holds_all_taken, holds_ends_one, holds_all_ended, opening_at_rest}
 use Rattle.lt_runner.proofs.WishLaws.{IsPlaced, all_placed}
 use Rattle.lt_runner.proofs.AttemptLaws.{seat_at}
 

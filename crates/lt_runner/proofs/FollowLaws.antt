@@ -1,17 +1,13 @@
 -- A turn of the plain scheduler is what its transaction has come to, with the lines of the trace that are still to come behind its own.
-use Rattle.std.proofs.Common.{◌≡◌, ◌≢◌, ℕ, zero, suc, ◌+◌, ◌<◌, ◌≤◌, List, [], ◌∷◌, ◌++◌, map, Bool, true, false, ◌==◌, ◌&&◌, ◌||◌, not, if◌then◌else◌, Option, Some, None, IfSome, is_some, IsTrue, length, ◌⊎◌, inl, inr, refl, sym, ap, subst, ◌∙◌, arith, append-nil, append_assoc, eq-eqb}
-use Rattle.std.specs.List.{AllByRecursion, list_any, filter}
-use Rattle.std.specs.List.Sorted.{IsStrictlySortedBy}
+use Rattle.std.proofs.Common.{◌≡◌, ◌≢◌, ℕ, ◌+◌, ◌≤◌, List, [], ◌∷◌, ◌++◌, Bool, true, false, ◌==◌, ◌||◌, not, if◌then◌else◌, Option, Some, None, IfSome, is_some, IsTrue, length, ◌⊎◌, inl, inr, refl, sym, ap, subst, ◌∙◌, arith, append-nil, append_assoc, eq-eqb}
+use Rattle.std.specs.List.{list_any, filter}
 use Rattle.std.proofs.lemmas.Bool.Decides.{nat_tests}
-use Rattle.std.proofs.lemmas.List.{length-append}
 use Rattle.lt_ranges.specs.Interval.{Interval}
-use Rattle.lt_ranges.specs.Numbers.{is_in}
 use Rattle.lt_seq.specs.declared.event.Reply.{Reply}
 use Rattle.lt_seq.specs.declared.event.Reply.TheVariants.{Granted, Buffered, HeldBy}
 use Rattle.lt_seq.specs.declared.event.Event.{Event}
 use Rattle.lt_seq.specs.declared.event.Receipt.{Receipt}
 use Rattle.lt_seq.specs.Table.{Setting}
-use Rattle.lt_seq.specs.History.{IsLegal}
 use Rattle.lt_seq.specs.Yard.{place_after}
 use Rattle.lt_seq.specs.Questions.{question, receipts_of, events_of}
 use Rattle.lt_trace.specs.declared.line.Line.{Line}
@@ -21,14 +17,13 @@ use Rattle.lt_trace.specs.Grammar.{is_last}
 use Rattle.lt_requests.specs.declared.wish.Wish.{Wish}
 use Rattle.lt_requests.specs.declared.cycle.Edge.{Edge}
 use Rattle.lt_history.specs.declared.outcome.Outcome.{Outcome}
-use Rattle.lt_runner.specs.TurnView.{Turn, Seat}
-use Rattle.lt_runner.specs.Turn.{Move, leaves, asks, waits, stops, escalates, grows, ends, frees, receipts_in, turn_after, asked_at, answered_by, locked_by, walked, reply_in}
+use Rattle.lt_runner.specs.TurnView.{Turn}
+use Rattle.lt_runner.specs.Turn.{Move, leaves, asks, waits, stops, escalates, grows, ends, frees, turn_after, asked_at, answered_by, locked_by, reply_in}
 use Rattle.lt_runner.specs.Plays.{Past, Stage, MayDo, is_ask, is_big, line_question, opening_stage, lines_for, end_of, with_end, next_wish, wish_in}
 use Rattle.lt_runner.specs.Run.{IsListedRightly}
-use Rattle.lt_runner.specs.Played.{HasCome, MovesBy, Search, IsAmong, Fits, IsPastAt, IsAtLock, IsAtLine}
-use Rattle.lt_runner.specs.Serial.{Game, line_move}
+use Rattle.lt_runner.specs.Played.{HasCome, MovesBy, Search, IsAmong, Fits, IsAtLock}
 use Rattle.lt_runner.specs.Steps.{IsSteady}
-use Rattle.lt_runner.proofs.TurnsLaws.{on_true, on_false}
+use Rattle.lt_runner.proofs.ChoiceLaws.{on_true, on_false}
 use Rattle.lt_runner.proofs.CallLaws.{AreCalls, AreOwn, receipts_of_calls, none_of_calls, receipts_of-append}
 use Rattle.lt_runner.proofs.ComeLaws.{come_stays, come_more}
 use Rattle.lt_runner.proofs.SearchLaws.{at_line_opening}

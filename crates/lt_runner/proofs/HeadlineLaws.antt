@@ -1,7 +1,7 @@
 -- What the plain scheduler writes is the text of a run.
-use Rattle.std.proofs.Common.{◌≡◌, ℕ, List, [], ◌∷◌, false, map, length, refl, sym, ap, ◌∙◌, arith}
-use Rattle.std.specs.List.{AllByRecursion, filter_map}
-use Rattle.lt_seq.specs.Table.{Setting, used}
+use Rattle.std.proofs.Common.{ℕ, List, [], false, map, length, refl, sym, ap, arith}
+use Rattle.std.specs.List.{AllByRecursion}
+use Rattle.lt_seq.specs.Table.{used}
 use Rattle.lt_seq.specs.History.{after}
 use Rattle.lt_seq.specs.Questions.{all_receipts}
 use Rattle.lt_seq.proofs.LocksLaws.{keeps_locks}
@@ -10,7 +10,7 @@ use Rattle.lt_trace.specs.Trace.{TraceView}
 use Rattle.lt_trace.specs.Grammar.{IsTrace, txns_of}
 use Rattle.lt_history.specs.declared.outcome.Ended.{Ended}
 use Rattle.lt_history.specs.Text.{text}
-use Rattle.lt_runner.specs.Serial.{Game, ended_in, setting_of, game_of, serial, ran_text, opening_game}
+use Rattle.lt_runner.specs.Serial.{Game, setting_of, game_of, serial, ran_text, opening_game}
 use Rattle.lt_runner.specs.Run.{IsRunText}
 use Rattle.lt_runner.specs.Steps.{IsFit, KeepsSteps}
 use Rattle.lt_runner.proofs.OrderLaws.{ascending_sorted}

@@ -1,6 +1,6 @@
 -- Between the scheduler's steps, each turn that is ready has played all its lines.
 use Rattle.std.proofs.Common.{◌≡◌, ◌≢◌, ℕ, List, [], ◌∷◌, ◌++◌, Bool, true, false, ◌==◌, ◌&&◌, not, if◌then◌else◌, Option, Some, None, is_some, is_none, nat_lt, refl, sym, ap, subst, ◌∙◌, arith, eq-eqb}
-use Rattle.std.specs.List.{AllByRecursion, fold}
+use Rattle.std.specs.List.{fold}
 use Rattle.std.proofs.lemmas.Bool.Decides.{nat_tests}
 use Rattle.lt_ranges.specs.Interval.{Interval}
 use Rattle.lt_ranges.specs.Numbers.{is_in}
@@ -24,14 +24,14 @@ use Rattle.lt_requests.specs.declared.cycle.Edge.{Edge}
 use Rattle.lt_history.specs.declared.outcome.Outcome.{Outcome}
 use Rattle.lt_runner.specs.declared.release.Release.{Release}
 use Rattle.lt_runner.specs.TurnView.{Turn}
-use Rattle.lt_runner.specs.Turn.{Move, leaves, asks, waits, stops, escalates, grows, ends, frees, turn_after, answered_by, walked, locked_by, asked_at, ended_at, reply_in, rest_of, rest_of_release}
+use Rattle.lt_runner.specs.Turn.{Move, asks, waits, stops, frees, turn_after, answered_by, walked, locked_by, asked_at, ended_at, reply_in, rest_of, rest_of_release}
 use Rattle.lt_runner.specs.Attempt.{bar_of}
 use Rattle.lt_runner.specs.Plays.{is_held, is_ask}
-use Rattle.lt_runner.specs.Serial.{Game, turn_of, with_turn, is_waiting, is_ready, ask_move, behind_joins, joins_of, attempt, line_move, does, gives_back, settles, plays_line, plays_next, plays_on, retried, swept, swept_if_released, settled, added}
-use Rattle.lt_runner.specs.Steps.{IsFitLine, IsSteady, IsInOrder, IsTurnOf, IsAtLine, IsOwing, KeepsMoves, takes}
-use Rattle.lt_runner.proofs.TurnsLaws.{on_true, on_false}
+use Rattle.lt_runner.specs.Serial.{Game, turn_of, is_waiting, is_ready, ask_move, behind_joins, joins_of, attempt, line_move, does, gives_back, settles, plays_line, plays_next, plays_on, retried, swept, swept_if_released, settled, added}
+use Rattle.lt_runner.specs.Steps.{IsFitLine, IsSteady, IsInOrder, IsTurnOf, IsAtLine, IsOwing, takes}
+use Rattle.lt_runner.proofs.ChoiceLaws.{on_false}
 use Rattle.lt_runner.proofs.SteadyLaws.{numbers, turn_of_txn, turn_of_with, turn_of_other, turn_has, after_txn, ready_goes, waits_goes, never, steady_taking, steady_freed}
-use Rattle.lt_runner.proofs.MoveLaws.{Holds, KeepsOf, AnyOne, keeps_of, AreOf, are_of, the_turn, turn_after_does, in_order_with, holds_plays, holds_settles, holds_line, holds_next, holds_on, holds_retried, holds_swept_if}
+use Rattle.lt_runner.proofs.MoveLaws.{Holds, KeepsOf, AnyOne, AreOf, are_of, the_turn, turn_after_does, in_order_with, holds_plays, holds_settles, holds_next, holds_retried}
 
 -- one that is ready has these lines left
 abbrev pub Rests : Turn → List Line → Type 0

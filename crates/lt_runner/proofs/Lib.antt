@@ -1,4 +1,5 @@
 pub mod FreeLaws
+pub mod ChoiceLaws
 pub mod TurnsLaws
 pub mod SteadyLaws
 pub mod MoveLaws

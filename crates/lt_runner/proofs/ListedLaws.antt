@@ -1,5 +1,5 @@
 -- A search more, of one transaction: the others are listed rightly in it where they are now.
-use Rattle.std.proofs.Common.{◌≡◌, ◌≢◌, Contains, ℕ, zero, suc, ◌+◌, ◌<◌, ◌≤◌, List, [], ◌∷◌, ◌++◌, Bool, true, false, ◌==◌, ◌&&◌, nat_lt, nat_le, if◌then◌else◌, cond, length, refl, sym, ap, subst, ◌∙◌, arith}
+use Rattle.std.proofs.Common.{◌≡◌, ◌≢◌, Contains, ℕ, zero, suc, ◌+◌, ◌<◌, ◌≤◌, List, [], ◌∷◌, ◌++◌, Bool, true, false, ◌==◌, ◌&&◌, nat_lt, nat_le, if◌then◌else◌, length, refl, sym, ap, subst, ◌∙◌, arith}
 use Rattle.std.specs.List.{AllByRecursion, list_all, flat_map}
 use Rattle.std.proofs.lemmas.Bool.Decides.{nat_tests}
 use Rattle.lt_seq.specs.declared.event.Event.{Event}
@@ -8,7 +8,6 @@ use Rattle.lt_seq.specs.Table.{Setting}
 use Rattle.lt_seq.specs.Questions.{receipts_of}
 use Rattle.lt_seq.specs.Yard.{place_after}
 use Rattle.lt_trace.specs.declared.line.Line.{Line}
-use Rattle.lt_requests.specs.declared.wish.Wish.{Wish}
 use Rattle.lt_runner.specs.declared.release.Release.{Release}
 use Rattle.lt_runner.specs.TurnView.{Turn, Seat}
 use Rattle.lt_runner.specs.Turn.{Move, leaves, asks, waits, stops, escalates, grows, ends, frees, receipts_in}

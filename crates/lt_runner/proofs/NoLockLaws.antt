@@ -1,5 +1,5 @@
 -- Where no line is a lock line, no transaction waits, so that none gets stuck.
-use Rattle.std.proofs.Common.{◌≡◌, ◌≢◌, ℕ, List, [], ◌∷◌, ◌++◌, map, Bool, true, false, ◌&&◌, ◌==◌, not, if◌then◌else◌, Option, Some, None, is_some, is_none, refl, sym, ap, subst, ◌∙◌}
+use Rattle.std.proofs.Common.{◌≡◌, ℕ, List, [], ◌∷◌, ◌++◌, map, Bool, true, false, ◌&&◌, not, if◌then◌else◌, Option, Some, None, is_some, is_none, refl, sym, ap, ◌∙◌}
 use Rattle.std.specs.List.{AllByRecursion, find}
 use Rattle.lt_ranges.specs.Interval.{Interval}
 use Rattle.lt_ranges.specs.Numbers.{is_in}
@@ -13,14 +13,13 @@ use Rattle.lt_requests.specs.declared.cycle.Edge.{Edge}
 use Rattle.lt_history.specs.declared.outcome.Outcome.{Outcome}
 use Rattle.lt_runner.specs.TurnView.{Turn}
 use Rattle.lt_runner.specs.Turn.{Move, leaves, asks, waits, stops, escalates, grows, ends, frees, turn_after, answered_by, walked, locked_by, asked_at, ended_at, reply_in, rest_of}
-use Rattle.lt_runner.specs.Plays.{is_lock, end_of, opening_turn}
+use Rattle.lt_runner.specs.Plays.{end_of, opening_turn}
 use Rattle.lt_runner.specs.Played.{IsAtLock}
-use Rattle.lt_runner.specs.Serial.{Game, turn_of, with_turn, is_ready, line_move, opening_game}
-use Rattle.lt_runner.specs.Steps.{IsSteady, KeepsMoves, KeepsSteps, IsTurnOf, takes}
+use Rattle.lt_runner.specs.Serial.{Game, with_turn, is_ready, line_move, opening_game}
+use Rattle.lt_runner.specs.Steps.{IsSteady, KeepsSteps}
 use Rattle.lt_runner.proofs.SteadyLaws.{all_with, all_push, turn_has, at_turn, numbers}
-use Rattle.lt_runner.proofs.StepLaws.{HoldsBetween}
 use Rattle.lt_runner.proofs.FitLaws.{IsNoLock}
-use Rattle.lt_runner.proofs.EndLaws.{IsNeverStuck, has_ended}
+use Rattle.lt_runner.proofs.EndLaws.{IsNeverStuck}
 
 -- A move leaves no other lines than there were.
 

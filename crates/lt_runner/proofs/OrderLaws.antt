@@ -6,7 +6,7 @@ use Rattle.std.specs.List.Sorted.{IsStrictlySortedBy}
 use Rattle.std.proofs.lemmas.Bool.Decides.{nat_tests}
 use Rattle.std.proofs.lemmas.Cmp.{ranked}
 use Rattle.lt_ranges.specs.Numbers.{with_number, ascending}
-use Rattle.lt_runner.proofs.TurnsLaws.{on_true}
+use Rattle.lt_runner.proofs.ChoiceLaws.{on_true}
 
 abbrev AllAbove : ℕ → List ℕ → Type 0
 AllAbove n ns = AllByRecursion (λ m. nat_cmp n m ≡ Less) ns

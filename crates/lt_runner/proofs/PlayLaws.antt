@@ -14,7 +14,7 @@ use Rattle.lt_trace.specs.declared.line.LineDeed.{LineDeed}
 use Rattle.lt_runner.specs.Plays.{Stage, stage_after, stage_after_all, MayDo, IsMove, ArePlayed}
 use Rattle.lt_runner.specs.Played.{AreInside, IsInside}
 use Rattle.lt_runner.specs.Turn.{Move, leaves, asks, waits, stops, escalates, grows, ends, frees, receipts_in}
-use Rattle.lt_runner.specs.Attempt.{behind, used_at, HasRoom, IsFull, AreJoins, IsAttempt, IsStop}
+use Rattle.lt_runner.specs.Attempt.{used_at, HasRoom, IsFull, AreJoins, IsAttempt, IsStop}
 
 -- one move more
 pub played_more : (crew : Bool) (setting : Setting) (history : List Event) (stage : Stage) (moves : List Move) (move : Move) →

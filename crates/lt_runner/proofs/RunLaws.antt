@@ -1,17 +1,16 @@
 -- Where all transactions have ended, what was done is a run.
-use Rattle.std.proofs.Common.{◌≡◌, ◌≢◌, Contains, ℕ, zero, suc, ◌+◌, ◌<◌, List, [], ◌∷◌, ◌++◌, Bool, true, false, ◌==◌, Option, Some, None, is_some, option_map, IsTrue, map, refl, sym, ap, ◌∙◌, subst, arith}
+use Rattle.std.proofs.Common.{◌≡◌, ◌≢◌, Contains, ℕ, zero, suc, List, [], ◌∷◌, Bool, true, false, Option, Some, None, is_some, option_map, map, refl, sym, ap, ◌∙◌, subst, arith}
 use Rattle.std.specs.List.{AllByRecursion, filter_map, cons_option}
 use Rattle.lt_seq.specs.declared.event.Event.{Event}
 use Rattle.lt_seq.specs.Table.{Setting}
 use Rattle.lt_trace.specs.declared.line.Line.{Line}
-use Rattle.lt_trace.specs.Grammar.{txns_of}
 use Rattle.lt_history.specs.declared.outcome.Outcome.{Outcome}
 use Rattle.lt_history.specs.declared.outcome.Ended.{Ended}
 use Rattle.lt_runner.specs.TurnView.{Turn, Seat}
 use Rattle.lt_runner.specs.Turn.{Move, leaves, asks, waits, stops, escalates, grows, ends, frees}
 use Rattle.lt_runner.specs.Plays.{Plays, Stage, lines_for, opening_stage, stage_after_all}
-use Rattle.lt_runner.specs.Run.{Play, ended_as, AreAllPlayed, IsRun, IsSearchedRightly, IsListedRightly, moves_before, stage_at}
-use Rattle.lt_runner.specs.Played.{Search, AreListed, IsAmong, HasCome, Stands, AllStand, IsOver}
+use Rattle.lt_runner.specs.Run.{Play, ended_as, IsRun, IsSearchedRightly, IsListedRightly, moves_before, stage_at}
+use Rattle.lt_runner.specs.Played.{Search, AreListed, IsAmong, Stands, AllStand, IsOver}
 use Rattle.lt_runner.specs.Serial.{ended_in}
 
 -- what a play was in the searches of others, and its own among them

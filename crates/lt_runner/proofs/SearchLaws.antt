@@ -1,5 +1,5 @@
 -- A search that was right stays right while the others go on.
-use Rattle.std.proofs.Common.{◌≡◌, ◌≢◌, ◌⊎◌, ℕ, zero, ◌+◌, ◌<◌, ◌≤◌, List, [], ◌∷◌, ◌++◌, Bool, true, false, ◌&&◌, ◌||◌, not, nat_lt, nat_le, if◌then◌else◌, cond, Option, Some, None, IfSome, IsTrue, fold, refl, sym, ap, subst, ◌∙◌, inl, inr, arith, append-nil}
+use Rattle.std.proofs.Common.{◌≡◌, ◌≢◌, ◌⊎◌, ℕ, ◌+◌, ◌<◌, ◌≤◌, List, [], ◌∷◌, ◌++◌, Bool, true, false, ◌&&◌, nat_lt, nat_le, if◌then◌else◌, Option, Some, None, IfSome, IsTrue, refl, sym, ap, subst, ◌∙◌, inl, inr, arith}
 use Rattle.std.specs.List.{AllByRecursion, list_all}
 use Rattle.std.proofs.lemmas.Bool.{false≢true}
 use Rattle.std.proofs.lemmas.Bool.Decides.{nat_tests}
@@ -17,9 +17,9 @@ use Rattle.lt_requests.specs.declared.wish.Wish.{Wish}
 use Rattle.lt_requests.specs.declared.cycle.Edge.{Edge}
 use Rattle.lt_runner.specs.TurnView.{Turn}
 use Rattle.lt_runner.specs.Turn.{Move, leaves, asks, waits, stops, escalates, grows, ends, frees, turn_after, asked_at, ended_at, answered_by, locked_by, walked, reply_in}
-use Rattle.lt_runner.specs.Plays.{Past, Stage, stage_after, stage_after_all, MayDo, IsMove, ArePlayed, is_lock, is_big, next_wish, wish_in, opening_stage, lines_for}
+use Rattle.lt_runner.specs.Plays.{Stage, stage_after, stage_after_all, IsMove, is_lock, is_big, next_wish, wish_in, opening_stage}
 use Rattle.lt_runner.specs.Run.{is_before, begun, moves_before, IsListedRightly}
-use Rattle.lt_runner.specs.Played.{IsAtLock, IsAtLine, IsLate, Search, AreListed, IsAmong, Fits}
+use Rattle.lt_runner.specs.Played.{IsAtLock, IsAtLine, IsLate, Search, AreListed}
 use Rattle.lt_runner.proofs.StepLaws.{after_txn}
 
 -- Where a transaction waits.

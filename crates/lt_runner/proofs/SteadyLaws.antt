@@ -1,20 +1,14 @@
 -- The plain scheduler's turns: each by its number, and each steady between two steps.
-use Rattle.std.proofs.Common.{◌≡◌, ◌≢◌, ℕ, zero, suc, ◌+◌, ◌<◌, ◌≤◌, List, [], ◌∷◌, ◌++◌, map, Bool, true, false, ◌==◌, ◌&&◌, ◌||◌, not, if◌then◌else◌, Option, Some, None, is_some, is_none, length, get_or, slice_set, replicate, nat_cmp, refl, sym, ap, subst, ◌∙◌, arith, eq-eqb}
-use Rattle.std.specs.List.{AllByRecursion, fold, find}
-use Rattle.std.specs.List.Sorted.{IsStrictlySortedBy}
-use Rattle.std.specs.declared.cmp.Ordering.TheVariants.{Less}
+use Rattle.std.proofs.Common.{◌≡◌, ◌≢◌, ℕ, zero, suc, ◌+◌, ◌<◌, ◌≤◌, List, [], ◌∷◌, ◌++◌, map, Bool, true, false, ◌==◌, ◌&&◌, ◌||◌, not, if◌then◌else◌, Option, Some, None, is_some, is_none, length, get_or, slice_set, refl, sym, ap, subst, ◌∙◌, arith, eq-eqb}
+use Rattle.std.specs.List.{AllByRecursion}
 use Rattle.std.proofs.lemmas.Bool.Decides.{nat_tests}
 use Rattle.std.proofs.lemmas.List.{length-set}
-use Rattle.std.proofs.lemmas.Cmp.{ranked}
 use Rattle.lt_ranges.specs.Interval.{Interval, IsInterval, whole}
 use Rattle.lt_ranges.specs.Key.{key_le}
 use Rattle.lt_ranges.specs.Numbers.{is_in}
-use Rattle.lt_seq.specs.declared.event.Deed.TheVariants.{Ask, Free, Join}
 use Rattle.lt_seq.specs.declared.event.Reply.{Reply}
 use Rattle.lt_seq.specs.declared.event.Reply.TheVariants.{Granted, Buffered, HeldBy}
-use Rattle.lt_seq.specs.declared.event.Event.{Event}
 use Rattle.lt_seq.specs.Table.{Setting}
-use Rattle.lt_seq.specs.Questions.{receipt_after}
 use Rattle.lt_trace.specs.declared.line.Line.{Line}
 use Rattle.lt_trace.specs.declared.line.LineDeed.{LineDeed}
 use Rattle.lt_trace.specs.declared.line.LineDeed.TheVariants.{Try, Lock, End, Abort, Escalate, Big}
@@ -23,12 +17,11 @@ use Rattle.lt_history.specs.declared.outcome.Outcome.{Outcome}
 use Rattle.lt_history.specs.declared.outcome.Outcome.TheVariants.{Done, Aborted, Deadlock, OutOfLocks}
 use Rattle.lt_runner.specs.declared.release.Release.{Release}
 use Rattle.lt_runner.specs.TurnView.{Turn, Recorded}
-use Rattle.lt_runner.specs.Turn.{Move, leaves, asks, waits, stops, escalates, grows, ends, frees, receipts_in, turn_after, releases_by, releases_in, releases_from, nothing_recorded, past, granted_to, ending, answered_by, walked, locked_by, asked_at, ended_at, reply_in, rest_of, rest_of_release}
-use Rattle.lt_runner.specs.Plays.{end_of, opening_turn}
-use Rattle.lt_runner.specs.Serial.{Game, turn_of, with_turn, is_waiting, is_ready, line_move, does, gives_back, settles, plays_line, plays_next, plays_on, retried, swept, swept_if_released, settled, added, takes_line, ends_first, ends_one, opening_game, played}
+use Rattle.lt_runner.specs.Turn.{Move, leaves, asks, waits, stops, escalates, grows, ends, frees, turn_after, releases_by, releases_in, releases_from, nothing_recorded, past, granted_to, ending, answered_by, walked, locked_by, asked_at, ended_at, reply_in, rest_of, rest_of_release}
+use Rattle.lt_runner.specs.Serial.{Game, turn_of, with_turn, is_ready}
 use Rattle.lt_runner.specs.Played.{IsAtLock}
-use Rattle.lt_runner.specs.Steps.{IsFitDeed, IsFitLine, IsFitRelease, AreRanges, IsSteady, IsInOrder, IsTurnOf, IsAtLine, IsOwing, IsTaking, IsPassing, IsEnding, KeepsMoves, takes, KeepsSteps, IsFit}
-use Rattle.lt_runner.proofs.TurnsLaws.{on_true, on_false}
+use Rattle.lt_runner.specs.Steps.{IsFitDeed, IsFitLine, IsFitRelease, AreRanges, IsSteady, IsTurnOf}
+use Rattle.lt_runner.proofs.ChoiceLaws.{on_true, on_false}
 
 -- Turns by their numbers.
 

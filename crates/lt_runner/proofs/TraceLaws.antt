@@ -5,6 +5,7 @@ use Rattle.std.specs.Option.{option_or}
 use Rattle.std.proofs.lemmas.Bool.Decides.{nat_tests}
 use Rattle.std.proofs.lemmas.List.{length-append}
 use Rattle.std.proofs.lemmas.List.Elements.{All-nil, All-cons}
+use Rattle.lt_ranges.specs.Interval.{IsInterval}
 use Rattle.lt_seq.specs.Table.{Setting}
 use Rattle.lt_seq.specs.Yard.{IsPlan}
 use Rattle.lt_trace.specs.declared.line.Line.{Line}
@@ -18,7 +19,6 @@ use Rattle.lt_runner.specs.Serial.{plan_of, setting_of, most_of, most_events}
 use Rattle.lt_runner.specs.AtOnce.{IsPlain, IsOfTrace, HasPlaces}
 use Rattle.lt_ranges.specs.Numbers.{is_in}
 use Rattle.lt_runner.proofs.OpeningLaws.{has_numbers}
-use Rattle.lt_ranges.specs.Interval.{IsInterval}
 
 -- The line asks for a range.
 abbrev pub AsksRange : LineDeed → Type 0

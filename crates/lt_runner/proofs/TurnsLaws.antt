@@ -8,15 +8,7 @@ use Rattle.lt_seq.specs.Table.{Setting}
 use Rattle.lt_runner.specs.TurnView.{Turn}
 use Rattle.lt_runner.specs.Serial.{turn_of, with_turn}
 use Rattle.lt_runner.specs.AtOnce.{numbers_of}
-
--- a choice whose test is known
-pub on_true : {X : Type 0} (b : Bool) (x y : X) → b ≡ true → (if b then x else y) ≡ x
-on_true true x y e = refl
-on_true false x y e = cc
-
-pub on_false : {X : Type 0} (b : Bool) (x y : X) → b ≡ false → (if b then x else y) ≡ y
-on_false true x y e = cc
-on_false false x y e = refl
+pub use Rattle.lt_runner.proofs.ChoiceLaws.{on_true, on_false}
 
 differs : (a b : ℕ) → a < b → (a == b) ≡ false
 differs a b lt = grind (arith, nat_tests)

@@ -1,5 +1,5 @@
 -- The plain scheduler's run keeps to the rules of runs at each step.
-use Rattle.std.proofs.Common.{◌≡◌, ◌≢◌, ◌⊎◌, inl, inr, ℕ, zero, suc, ◌+◌, ◌<◌, ◌≤◌, List, [], ◌∷◌, ◌++◌, map, Bool, true, false, ◌==◌, if◌then◌else◌, Option, Some, None, is_some, IsTrue, nat_lt, ◌&&◌, length, Contains, nat_cmp, refl, sym, ap, subst, ◌∙◌, arith, append-nil, append_assoc, eq-eqb}
+use Rattle.std.proofs.Common.{◌≡◌, ◌≢◌, ◌⊎◌, inl, inr, ℕ, suc, ◌<◌, ◌≤◌, List, [], ◌∷◌, ◌++◌, map, Bool, true, false, ◌==◌, if◌then◌else◌, is_some, nat_lt, ◌&&◌, length, Contains, nat_cmp, refl, sym, ap, subst, ◌∙◌, arith, append-nil, append_assoc, eq-eqb}
 use Rattle.std.specs.List.{AllByRecursion, filter_map}
 use Rattle.std.specs.List.Sorted.{IsStrictlySortedBy}
 use Rattle.std.proofs.lemmas.Bool.Decides.{nat_tests}
@@ -21,23 +21,21 @@ use Rattle.lt_trace.specs.declared.line.LineDeed.TheVariants.{Try, Lock, End, Ab
 use Rattle.lt_trace.specs.Grammar.{txns_of}
 use Rattle.lt_requests.specs.declared.wish.Wish.{Wish}
 use Rattle.lt_runner.specs.declared.release.Release.{Release}
-use Rattle.lt_runner.specs.TurnView.{Turn, Seat}
+use Rattle.lt_runner.specs.TurnView.{Turn}
 use Rattle.lt_runner.specs.Turn.{Move, leaves, asks, waits, stops, escalates, grows, ends, frees, receipts_in, turn_after, reply_in}
 use Rattle.lt_runner.specs.Attempt.{bar_of}
-use Rattle.lt_runner.specs.Plays.{Past, MayDo, AreWishes, is_held, wish_in, end_of, opening_stage, lines_for, opening_turn}
+use Rattle.lt_runner.specs.Plays.{is_held, wish_in, end_of, opening_stage, lines_for, opening_turn}
 use Rattle.lt_runner.specs.Run.{Play, ended_as, IsRun}
-use Rattle.lt_runner.specs.Played.{HasCome, MovesBy, Search, IsAmong, IsLate, Fits, Stands, AllStand, IsOver}
+use Rattle.lt_runner.specs.Played.{HasCome, MovesBy, Search, IsAmong, IsLate, Fits, Stands, IsOver}
 use Rattle.lt_runner.specs.Serial.{Game, turn_of, with_turn, line_move, does, attempt, behind_joins, joins_of, ask_move, opening_game, ended_in}
-use Rattle.lt_runner.specs.Steps.{IsFitLine, IsFitRelease, IsSteady, IsInOrder, IsTurnOf, IsAtLine, IsOwing, IsTaking, IsPassing, IsEnding, KeepsMoves, KeepsSteps, takes}
-use Rattle.lt_runner.proofs.TurnsLaws.{on_true, on_false}
+use Rattle.lt_runner.specs.Steps.{IsFitLine, IsFitRelease, IsSteady, IsInOrder, IsTurnOf, IsAtLine, IsOwing, KeepsSteps}
 use Rattle.lt_runner.proofs.StepLaws.{all_with, turn_has, after_txn, ready_goes}
 use Rattle.lt_runner.proofs.CallLaws.{AreCalls, AreOwn, legal_calls, own_calls}
 use Rattle.lt_runner.proofs.PlayLaws.{longer}
 use Rattle.lt_runner.proofs.RunLaws.{come_is_run}
-use Rattle.lt_runner.proofs.ListedLaws.{contains_more}
-use Rattle.lt_runner.proofs.WishLaws.{IsPlaced, all_placed, wishes_at, are_wishes, wish_other, wish_of, fit_wishes}
+use Rattle.lt_runner.proofs.WishLaws.{IsPlaced, all_placed, wishes_at, are_wishes, wish_other, fit_wishes}
 use Rattle.lt_runner.proofs.SearchedLaws.{IsFitWish}
-use Rattle.lt_runner.proofs.AttemptLaws.{seat_at, at_lines, IsDone, done_moves, done_line, free_moves}
+use Rattle.lt_runner.proofs.AttemptLaws.{seat_at, at_lines, done_moves, done_line, free_moves}
 use Rattle.lt_runner.proofs.FollowLaws.{in_play, in_play_open, in_play_after, in_play_over, Comes, comes_searched, comes_stays, comes_moved, comes_same, play_other, play_taken, play_ended, to_come, lines_behind}
 
 -- All transactions, half played, in one legal history.

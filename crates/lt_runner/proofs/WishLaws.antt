@@ -1,6 +1,6 @@
 -- The wishes of those that wait.
-use Rattle.std.proofs.Common.{◌≡◌, ◌≢◌, ℕ, ◌<◌, List, [], ◌∷◌, ◌++◌, map, Bool, true, false, ◌==◌, ◌||◌, cond, if◌then◌else◌, Option, Some, None, nat_cmp, refl, sym, ap, subst, ◌∙◌, arith, append-nil, append_assoc, eq-eqb, nat_lt}
-use Rattle.std.specs.List.{AllByRecursion, filter_map, cons_option, find, fold}
+use Rattle.std.proofs.Common.{◌≡◌, ◌≢◌, ℕ, ◌<◌, List, [], ◌∷◌, ◌++◌, map, Bool, true, false, ◌==◌, ◌||◌, if◌then◌else◌, Option, Some, None, nat_cmp, refl, sym, ap, subst, ◌∙◌, arith, append-nil, append_assoc, eq-eqb, nat_lt}
+use Rattle.std.specs.List.{AllByRecursion, cons_option, fold}
 use Rattle.std.specs.List.Sorted.{IsStrictlySortedBy}
 use Rattle.std.specs.declared.cmp.Ordering.TheVariants.{Less}
 use Rattle.std.proofs.lemmas.Bool.Decides.{nat_tests}
@@ -14,8 +14,8 @@ use Rattle.lt_requests.specs.declared.wish.Wish.{Wish}
 use Rattle.lt_runner.specs.TurnView.{Turn}
 use Rattle.lt_runner.specs.Plays.{wish_for, next_wish, wish_in, AreWishes}
 use Rattle.lt_runner.specs.Serial.{turn_of, with_turn, is_waiting, wishes_in}
-use Rattle.lt_runner.specs.Steps.{IsFitDeed, IsFitLine, IsSteady}
-use Rattle.lt_runner.proofs.TurnsLaws.{on_true, on_false}
+use Rattle.lt_runner.specs.Steps.{IsFitDeed, IsFitLine}
+use Rattle.lt_runner.proofs.ChoiceLaws.{on_true, on_false}
 use Rattle.lt_runner.proofs.SteadyLaws.{turn_of_with, turn_of_other, numbers_with}
 use Rattle.lt_runner.proofs.SearchedLaws.{IsFitWish}
 
