@@ -1,5 +1,6 @@
 -- What the plain scheduler does at a line is a move, whatever the transaction did before.
-use Rattle.std.proofs.Common.{◌≡◌, ℕ, zero, suc, ◌+◌, ◌<◌, ◌≤◌, List, [], ◌∷◌, ◌++◌, Bool, true, false, ◌==◌, ◌&&◌, ◌||◌, not, if◌then◌else◌, None, nat_lt, length, refl, sym, ap, subst, ◌∙◌, arith, append-nil, append_assoc}
+use Rattle.std.proofs.Common.{◌≡◌, ℕ, zero, suc, ◌+◌, ◌<◌, ◌≤◌, List, [], ◌∷◌, ◌++◌, Bool, true, false, ◌==◌, ◌&&◌, ◌||◌, not, if◌then◌else◌, None, nat_lt, length, refl, sym, ap}
+use Rattle.std.proofs.Common.{subst, ◌∙◌, arith, append-nil, append_assoc}
 use Rattle.std.specs.List.{AllByRecursion}
 use Rattle.std.proofs.lemmas.Bool.Decides.{nat_tests}
 use Rattle.std.proofs.lemmas.List.{length-append, map-append}
@@ -123,21 +124,26 @@ all_joins setting txn events = record {
 }
 
 -- they begin where the rows have reached the bar
-joins_full : (setting : Setting) (txn : ℕ) (events more : List Event) (bar since : ℕ) (joins : List Receipt) → 0 < setting.plan.trees → AreAllJoins setting txn events joins → since ≤ place_after setting events → bar ≤ used (after setting events) →
+joins_full : (setting : Setting) (txn : ℕ) (events more : List Event) (bar since : ℕ) (joins : List Receipt) → 0 < setting.plan.trees →
+    AreAllJoins setting txn events joins → since ≤ place_after setting events → bar ≤ used (after setting events) →
     AreJoins setting ((events ++ events_of joins) ++ more) bar since joins
 joins_full setting txn events more bar since [] some are low full = absurd (omega (arith, are.all))
 joins_full setting txn events more bar since (j ∷ js) some are low full = (
   subst (λ (place : ℕ). IsFull setting ((events ++ events_of (j ∷ js)) ++ more) bar since place) (sym (ap (λ (r : Receipt). r.place) are.calls.0.is))
-      (subst (λ (es : List Event). IsFull setting es bar since (place_after setting events)) (sym (append_assoc events (events_of (j ∷ js)) more)) (full_here setting events (events_of (j ∷ js) ++ more) bar since low full)),
+      (subst (λ (es : List Event). IsFull setting es bar since (place_after setting events)) (sym (append_assoc events (events_of (j ∷ js)) more))
+      (full_here setting events (events_of (j ∷ js) ++ more) bar since low full)),
   are.trees,
 )
 
-behind_all : (setting : Setting) (txn : ℕ) (events : List Event) (since : ℕ) (joins : List Receipt) → 0 < setting.plan.trees → AreAllJoins setting txn events joins → behind since joins ≡ place_after setting (events ++ events_of joins)
+behind_all : (setting : Setting) (txn : ℕ) (events : List Event) (since : ℕ) (joins : List Receipt) → 0 < setting.plan.trees → AreAllJoins setting txn events joins →
+    behind since joins ≡ place_after setting (events ++ events_of joins)
 behind_all setting txn events since [] some are = absurd (omega (arith, are.all))
 behind_all setting txn events since (j ∷ js) some are = behind_calls setting txn events (j ∷ js) (place_after setting events) are.calls refl
 
-attempt_joined : (setting : Setting) (txn : ℕ) (events more : List Event) (bar since : ℕ) (joins : List Receipt) → 0 < setting.plan.trees → AreAllJoins setting txn events joins → since ≤ place_after setting events →
-    bar ≤ used (after setting events) → used (after setting (events ++ events_of joins)) < bar → IsAttempt setting ((events ++ events_of joins) ++ more) bar since joins (place_after setting (events ++ events_of joins))
+attempt_joined : (setting : Setting) (txn : ℕ) (events more : List Event) (bar since : ℕ) (joins : List Receipt) → 0 < setting.plan.trees →
+    AreAllJoins setting txn events joins → since ≤ place_after setting events →
+    bar ≤ used (after setting events) → used (after setting (events ++ events_of joins)) < bar →
+    IsAttempt setting ((events ++ events_of joins) ++ more) bar since joins (place_after setting (events ++ events_of joins))
 attempt_joined setting txn events more bar since [] some are low full room = absurd (omega (arith, are.all))
 attempt_joined setting txn events more bar since (j ∷ js) some are low full room = (
   joins_full setting txn events more bar since (j ∷ js) some are low full,
@@ -148,7 +154,8 @@ attempt_joined setting txn events more bar since (j ∷ js) some are low full ro
 -- An attempt that finds room behind these joins, or behind none.
 record FindsRoom (setting : Setting) (old : Turn) (events : List Event) (joins : List Receipt) : Type 0 where
   calls : AreCalls setting old.txn events joins
-  attempt : (since : ℕ) (more : List Event) → since ≤ place_after setting events → IsAttempt setting ((events ++ events_of joins) ++ more) (bar_of setting old) since joins (place_after setting (events ++ events_of joins))
+  attempt : (since : ℕ) (more : List Event) → since ≤ place_after setting events →
+      IsAttempt setting ((events ++ events_of joins) ++ more) (bar_of setting old) since joins (place_after setting (events ++ events_of joins))
 
 abbrev ask_behind : Setting → Turn → List Event → List Receipt → ℕ → Interval → Receipt
 ask_behind setting old events joins tree range = receipt_after setting (events ++ events_of joins) 0 old.txn (Ask tree range Granted)
@@ -161,7 +168,8 @@ record StandsBehind (setting : Setting) (old : Turn) (events : List Event) (join
   late : place_after setting events ≤ ask.place
   seen : behind (ask.place + 1) rest ≤ place_after setting (events ++ events_of (joins ++ ask ∷ rest))
 
-stands_behind : (setting : Setting) (old : Turn) (events : List Event) (joins : List Receipt) (tree : ℕ) (range : Interval) (rest : List Receipt) → tree < setting.plan.trees → IsInterval range → AreCalls setting old.txn events joins →
+stands_behind : (setting : Setting) (old : Turn) (events : List Event) (joins : List Receipt) (tree : ℕ) (range : Interval) (rest : List Receipt) →
+    tree < setting.plan.trees → IsInterval range → AreCalls setting old.txn events joins →
     (let ask = ask_behind setting old events joins tree range in
     AreCalls setting old.txn ((events ++ events_of joins) ++ ask.event ∷ []) rest → StandsBehind setting old events joins ask rest)
 stands_behind setting old events joins tree range rest inside one calls follow =
@@ -176,18 +184,29 @@ stands_behind setting old events joins tree range rest inside one calls follow =
       place = far;
       joins_in = calls_inside setting old.txn events joins (place_after setting whole) calls far;
       late = omega (arith, length-append events (events_of joins));
-      seen = omega (arith, behind_calls setting old.txn (mid ++ ask.event ∷ []) rest (ask.place + 1) follow (omega (arith, length-append mid (ask.event ∷ []))), ap length parts,
-          ap length (append_assoc mid (ask.event ∷ []) (events_of rest)));
+      seen = omega (
+        arith,
+        behind_calls setting old.txn (mid ++ ask.event ∷ []) rest (ask.place + 1) follow (omega (arith, length-append mid (ask.event ∷ []))),
+        ap length parts,
+        ap length (append_assoc mid (ask.event ∷ []) (events_of rest)),
+      );
     }
 
 -- the ask alone, or with a search behind it
-done_try : (setting : Setting) (turns : List Turn) (old : Turn) (lines : List Line) (events : List Event) (joins : List Receipt) (tree : ℕ) (range : Interval) → tree < setting.plan.trees → IsInterval range → FindsRoom setting old events joins →
+done_try : (setting : Setting) (turns : List Turn) (old : Turn) (lines : List Line) (events : List Event) (joins : List Receipt) (tree : ℕ) (range : Interval) →
+    tree < setting.plan.trees → IsInterval range → FindsRoom setting old events joins →
     IsDone setting events (at_lines old lines) (Try tree range) (ask_move setting turns old false (events ++ events_of joins) joins (ask_behind setting old events joins tree range))
 done_try setting turns old lines events joins tree range inside one finds =
     let ask = ask_behind setting old events joins tree range in
     let stands = stands_behind setting old events joins tree range [] inside one finds.calls tt in
     record {
-      may = λ past low. (subst (λ (es : List Event). IsAttempt setting es (bar_of setting old) past.since joins ask.place) (sym (events_both events joins (ask ∷ []))) (finds.attempt past.since (ask.event ∷ []) low), refl, refl, refl);
+      may = λ past low. (
+        subst (λ (es : List Event). IsAttempt setting es (bar_of setting old) past.since joins ask.place) (sym (events_both events joins (ask ∷ [])))
+            (finds.attempt past.since (ask.event ∷ []) low),
+        refl,
+        refl,
+        refl,
+      );
       calls = stands.calls;
       inside = (stands.place, stands.joins_in);
       late = stands.late;
@@ -198,22 +217,27 @@ done_try setting turns old lines events joins tree range inside one finds =
 free_of_search : (deed_held held : Bool) → held ≡ false → (not (true && held) || (false && deed_held)) ≡ true
 free_of_search deed_held held e = ap (λ (b : Bool). not (true && b) || (false && deed_held)) e
 
-done_lock : (setting : Setting) (turns : List Turn) (old : Turn) (lines : List Line) (events : List Event) (joins : List Receipt) (tree : ℕ) (range : Interval) → tree < setting.plan.trees → IsInterval range → FindsRoom setting old events joins →
+done_lock : (setting : Setting) (turns : List Turn) (old : Turn) (lines : List Line) (events : List Event) (joins : List Receipt) (tree : ℕ) (range : Interval) →
+    tree < setting.plan.trees → IsInterval range → FindsRoom setting old events joins →
     AreWishes (wishes_at old turns) old.txn (Lock tree range) → AllByRecursion (IsFitWish setting) (wishes_at old turns) →
     IsDone setting events (at_lines old lines) (Lock tree range) (ask_move setting turns old true (events ++ events_of joins) joins (ask_behind setting old events joins tree range))
 done_lock setting turns old lines events joins tree range inside one finds are fit = by_reply (is_held (reply_in ask.event.deed)) refl
   where
     ask : Receipt
     ask = ask_behind setting old events joins tree range
+
     found : List Receipt
-    found = searched setting old.txn (wishes_at old turns) (wishes_at old turns) ((events ++ events_of joins) ++ ask.event ∷ []) [] (wishes_of (named_by (reply_in ask.event.deed)) (wishes_at old turns))
+    found = searched setting old.txn (wishes_at old turns) (wishes_at old turns) ((events ++ events_of joins) ++ ask.event ∷ []) []
+        (wishes_of (named_by (reply_in ask.event.deed)) (wishes_at old turns))
+
     by_reply : (held : Bool) → is_held (reply_in ask.event.deed) ≡ held →
         IsDone setting events (at_lines old lines) (Lock tree range) (if true && held then waits joins ask (wishes_at old turns) found else asks joins ask)
     by_reply true e =
         let stands = stands_behind setting old events joins tree range found inside one finds.calls (searched_calls setting old.txn (wishes_at old turns) _ (named_by (reply_in ask.event.deed)) fit) in
         record {
           may = λ past low. (
-            subst (λ (es : List Event). IsAttempt setting es (bar_of setting old) past.since joins ask.place) (sym (events_both events joins (ask ∷ found))) (finds.attempt past.since (events_of (ask ∷ found)) low),
+            subst (λ (es : List Event). IsAttempt setting es (bar_of setting old) past.since joins ask.place) (sym (events_both events joins (ask ∷ found)))
+                (finds.attempt past.since (events_of (ask ∷ found)) low),
             refl,
             refl,
             e,
@@ -230,7 +254,8 @@ done_lock setting turns old lines events joins tree range inside one finds are f
         let stands = stands_behind setting old events joins tree range [] inside one finds.calls tt in
         record {
           may = λ past low. (
-            subst (λ (es : List Event). IsAttempt setting es (bar_of setting old) past.since joins ask.place) (sym (events_both events joins (ask ∷ []))) (finds.attempt past.since (ask.event ∷ []) low),
+            subst (λ (es : List Event). IsAttempt setting es (bar_of setting old) past.since joins ask.place) (sym (events_both events joins (ask ∷ [])))
+                (finds.attempt past.since (ask.event ∷ []) low),
             refl,
             refl,
             free_of_search (past.held == 0) (is_held (reply_in ask.event.deed)) e,
@@ -248,11 +273,13 @@ done_lock setting turns old lines events joins tree range inside one finds are f
 finds_room : (setting : Setting) (old : Turn) (events : List Event) → used (after setting events) < bar_of setting old → FindsRoom setting old events []
 finds_room setting old events room = record {
   calls = tt;
-  attempt = λ since more low. subst (λ (es : List Event). IsAttempt setting (es ++ more) (bar_of setting old) since [] (place_after setting es)) (sym (append-nil events)) (room_here setting events more (bar_of setting old) since low room);
+  attempt = λ since more low. subst (λ (es : List Event). IsAttempt setting (es ++ more) (bar_of setting old) since [] (place_after setting es)) (sym (append-nil events))
+      (room_here setting events more (bar_of setting old) since low room);
 }
 
 -- or behind the joins of all trees
-finds_behind : (setting : Setting) (old : Turn) (events : List Event) (joins : List Receipt) → 0 < setting.plan.trees → AreAllJoins setting old.txn events joins → bar_of setting old ≤ used (after setting events) →
+finds_behind : (setting : Setting) (old : Turn) (events : List Event) (joins : List Receipt) → 0 < setting.plan.trees → AreAllJoins setting old.txn events joins →
+    bar_of setting old ≤ used (after setting events) →
     used (after setting (events ++ events_of joins)) < bar_of setting old → FindsRoom setting old events joins
 finds_behind setting old events joins some are full room = record {
   calls = are.calls;
@@ -260,7 +287,8 @@ finds_behind setting old events joins some are full room = record {
 }
 
 -- or there is none
-done_stops : (setting : Setting) (old : Turn) (lines : List Line) (deed : LineDeed) (events : List Event) (joins : List Receipt) → is_ask deed ≡ true → 0 < setting.plan.trees → AreAllJoins setting old.txn events joins → bar_of setting old ≤ used (after setting events) →
+done_stops : (setting : Setting) (old : Turn) (lines : List Line) (deed : LineDeed) (events : List Event) (joins : List Receipt) → is_ask deed ≡ true →
+    0 < setting.plan.trees → AreAllJoins setting old.txn events joins → bar_of setting old ≤ used (after setting events) →
     bar_of setting old ≤ used (after setting (events ++ events_of joins)) →
     IsDone setting events (at_lines old lines) deed (stops joins (place_after setting (events ++ events_of joins)) (used (after setting (events ++ events_of joins))))
 done_stops setting old lines deed events joins asking some are full still =
@@ -268,7 +296,8 @@ done_stops setting old lines deed events joins asking some are full still =
     record {
       may = λ past low. (
         record {
-          joined = subst (λ (es : List Event). AreJoins setting es (bar_of setting old) past.since joins) (append-nil mid) (joins_full setting old.txn events [] (bar_of setting old) past.since joins some are low full);
+          joined = subst (λ (es : List Event). AreJoins setting es (bar_of setting old) past.since joins) (append-nil mid)
+              (joins_full setting old.txn events [] (bar_of setting old) past.since joins some are low full);
           all = are.all;
           low = omega (arith, behind_all setting old.txn events past.since joins some are);
           high = omega arith;
@@ -297,20 +326,26 @@ attempt_try setting turns old lines events tree range inside one = by_room (nat_
   where
     joins : List Receipt
     joins = joins_of setting old.txn (numbers_from 0 setting.plan.trees) events
+
     mid : List Event
     mid = events ++ events_of joins
+
     by_second : (b : Bool) → nat_lt (used (after setting mid)) (bar_of setting old) ≡ b → bar_of setting old ≤ used (after setting events) →
         IsDone setting events (at_lines old lines) (Try tree range)
         (if b then ask_move setting turns old false mid joins (receipt_after setting mid 0 old.txn (Ask tree range Granted)) else stops joins (place_after setting mid) (used (after setting mid)))
     by_second true e full =
-        done_try setting turns old lines events joins tree range inside one (finds_behind setting old events joins (omega (arith, inside)) (all_joins setting old.txn events) full (below_of (used (after setting mid)) (bar_of setting old) e))
+        done_try setting turns old lines events joins tree range inside one
+        (finds_behind setting old events joins (omega (arith, inside)) (all_joins setting old.txn events) full (below_of (used (after setting mid)) (bar_of setting old) e))
     by_second false e full =
         done_stops setting old lines (Try tree range) events joins refl (omega (arith, inside)) (all_joins setting old.txn events) full (reached_of (used (after setting mid)) (bar_of setting old) e)
+
     by_room : (b : Bool) → nat_lt (used (after setting events)) (bar_of setting old) ≡ b →
         IsDone setting events (at_lines old lines) (Try tree range)
-        (if b then ask_move setting turns old false events [] (receipt_after setting events 0 old.txn (Ask tree range Granted)) else behind_joins setting turns old false (Ask tree range Granted) mid joins)
+        (if b then ask_move setting turns old false events [] (receipt_after setting events 0 old.txn (Ask tree range Granted)) else behind_joins setting turns old false
+        (Ask tree range Granted) mid joins)
     by_room true e =
-        subst (λ (es : List Event). IsDone setting events (at_lines old lines) (Try tree range) (ask_move setting turns old false es [] (receipt_after setting es 0 old.txn (Ask tree range Granted)))) (append-nil events)
+        subst (λ (es : List Event). IsDone setting events (at_lines old lines) (Try tree range)
+        (ask_move setting turns old false es [] (receipt_after setting es 0 old.txn (Ask tree range Granted)))) (append-nil events)
         (done_try setting turns old lines events [] tree range inside one (finds_room setting old events (below_of (used (after setting events)) (bar_of setting old) e)))
     by_room false e = by_second (nat_lt (used (after setting mid)) (bar_of setting old)) refl (reached_of (used (after setting events)) (bar_of setting old) e)
 
@@ -322,25 +357,32 @@ attempt_lock setting turns old lines events tree range inside one are fit = by_r
   where
     joins : List Receipt
     joins = joins_of setting old.txn (numbers_from 0 setting.plan.trees) events
+
     mid : List Event
     mid = events ++ events_of joins
+
     by_second : (b : Bool) → nat_lt (used (after setting mid)) (bar_of setting old) ≡ b → bar_of setting old ≤ used (after setting events) →
         IsDone setting events (at_lines old lines) (Lock tree range)
         (if b then ask_move setting turns old true mid joins (receipt_after setting mid 0 old.txn (Ask tree range Granted)) else stops joins (place_after setting mid) (used (after setting mid)))
     by_second true e full =
-        done_lock setting turns old lines events joins tree range inside one (finds_behind setting old events joins (omega (arith, inside)) (all_joins setting old.txn events) full (below_of (used (after setting mid)) (bar_of setting old) e)) are fit
+        done_lock setting turns old lines events joins tree range inside one
+        (finds_behind setting old events joins (omega (arith, inside)) (all_joins setting old.txn events) full (below_of (used (after setting mid)) (bar_of setting old) e)) are fit
     by_second false e full =
         done_stops setting old lines (Lock tree range) events joins refl (omega (arith, inside)) (all_joins setting old.txn events) full (reached_of (used (after setting mid)) (bar_of setting old) e)
+
     by_room : (b : Bool) → nat_lt (used (after setting events)) (bar_of setting old) ≡ b →
         IsDone setting events (at_lines old lines) (Lock tree range)
-        (if b then ask_move setting turns old true events [] (receipt_after setting events 0 old.txn (Ask tree range Granted)) else behind_joins setting turns old true (Ask tree range Granted) mid joins)
+        (if b then ask_move setting turns old true events [] (receipt_after setting events 0 old.txn (Ask tree range Granted)) else behind_joins setting turns old true
+        (Ask tree range Granted) mid joins)
     by_room true e =
-        subst (λ (es : List Event). IsDone setting events (at_lines old lines) (Lock tree range) (ask_move setting turns old true es [] (receipt_after setting es 0 old.txn (Ask tree range Granted)))) (append-nil events)
+        subst (λ (es : List Event). IsDone setting events (at_lines old lines) (Lock tree range)
+        (ask_move setting turns old true es [] (receipt_after setting es 0 old.txn (Ask tree range Granted)))) (append-nil events)
         (done_lock setting turns old lines events [] tree range inside one (finds_room setting old events (below_of (used (after setting events)) (bar_of setting old) e)) are fit)
     by_room false e = by_second (nat_lt (used (after setting mid)) (bar_of setting old)) refl (reached_of (used (after setting events)) (bar_of setting old) e)
 
 -- Any line.
-pub done_line : (setting : Setting) (game : Game) (old : Turn) (lines : List Line) (deed : LineDeed) → IsFitDeed setting deed → AreWishes (wishes_at old game.turns) old.txn deed → AllByRecursion (IsFitWish setting) (wishes_at old game.turns) →
+pub done_line : (setting : Setting) (game : Game) (old : Turn) (lines : List Line) (deed : LineDeed) → IsFitDeed setting deed →
+    AreWishes (wishes_at old game.turns) old.txn deed → AllByRecursion (IsFitWish setting) (wishes_at old game.turns) →
     IsDone setting game.events (at_lines old lines) deed (line_move setting game old deed)
 done_line setting game old lines (Try tree range) fit are wishes = attempt_try setting game.turns old lines game.events tree range fit.0 fit.1
 done_line setting game old lines (Lock tree range) fit are wishes = attempt_lock setting game.turns old lines game.events tree range fit.0 fit.1 are wishes

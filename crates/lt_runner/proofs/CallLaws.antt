@@ -27,22 +27,26 @@ abbrev pub AreCalls : Setting → ℕ → List Event → List Receipt → Type 0
 AreCalls setting txn events [] = Unit {0}
 AreCalls setting txn events (r ∷ rs) = IsCall setting txn events r × AreCalls setting txn (events ++ r.event ∷ []) rs
 
-pub calls_both : (setting : Setting) (txn : ℕ) (events : List Event) (xs ys : List Receipt) → AreCalls setting txn events xs → AreCalls setting txn (events ++ events_of xs) ys → AreCalls setting txn events (xs ++ ys)
+pub calls_both : (setting : Setting) (txn : ℕ) (events : List Event) (xs ys : List Receipt) → AreCalls setting txn events xs →
+    AreCalls setting txn (events ++ events_of xs) ys → AreCalls setting txn events (xs ++ ys)
 calls_both setting txn events [] ys all rest = subst (λ (es : List Event). AreCalls setting txn es ys) (append-nil events) rest
 calls_both setting txn events (x ∷ xs) ys all rest =
     (all.0, calls_both setting txn (events ++ x.event ∷ []) xs ys all.1 (subst (λ (es : List Event). AreCalls setting txn es ys) (sym (append_assoc events (x.event ∷ []) (events_of xs))) rest))
 
-next_of : (setting : Setting) (txn : ℕ) (events : List Event) (deed : Deed) → 0 < setting.plan.passes → tree_of deed < setting.plan.trees → IsQuestion deed → IsNext setting (after setting events) (event_after setting events 0 txn deed)
+next_of : (setting : Setting) (txn : ℕ) (events : List Event) (deed : Deed) → 0 < setting.plan.passes → tree_of deed < setting.plan.trees → IsQuestion deed →
+    IsNext setting (after setting events) (event_after setting events 0 txn deed)
 next_of setting txn events (Ask tree range reply) pass inside one = record { pass = pass; tree = inside; question = one; replies = refl }
 next_of setting txn events (Free tree range first count) pass inside one = record { pass = pass; tree = inside; question = one; replies = refl }
 next_of setting txn events (Who tree range named owners) pass inside one = record { pass = pass; tree = inside; question = one; replies = refl }
 next_of setting txn events (Join tree before behind_it) pass inside one = record { pass = pass; tree = inside; question = tt; replies = refl }
 
-pub legal_calls : (setting : Setting) (txn : ℕ) (events : List Event) (rs : List Receipt) → 0 < setting.plan.passes → AreCalls setting txn events rs → IsLegal setting events → IsLegal setting (events ++ events_of rs)
+pub legal_calls : (setting : Setting) (txn : ℕ) (events : List Event) (rs : List Receipt) → 0 < setting.plan.passes → AreCalls setting txn events rs →
+    IsLegal setting events → IsLegal setting (events ++ events_of rs)
 legal_calls setting txn events [] pass all legal = subst (IsLegal setting) (sym (append-nil events)) legal
 legal_calls setting txn events (r ∷ rs) pass all legal =
     let call = all.0 in
-    let next : IsNext setting (after setting events) r.event = subst (λ (x : Receipt). IsNext setting (after setting events) x.event) (sym call.is) (next_of setting txn events call.deed pass call.tree call.question) in
+    let next : IsNext setting (after setting events) r.event =
+    subst (λ (x : Receipt). IsNext setting (after setting events) x.event) (sym call.is) (next_of setting txn events call.deed pass call.tree call.question) in
     subst (IsLegal setting) (append_assoc events (r.event ∷ []) (events_of rs))
     (legal_calls setting txn (events ++ r.event ∷ []) rs pass all.1 (legal_more setting events r.event legal next))
 
@@ -54,7 +58,8 @@ own_calls setting txn events [] all = tt
 own_calls setting txn events (r ∷ rs) all = (ap (λ (x : Receipt). x.event.txn) all.0.is, own_calls setting txn (events ++ r.event ∷ []) rs all.1)
 
 -- they are the receipts of their events
-pub receipts_of_calls : (setting : Setting) (txn : ℕ) (events : List Event) (place : ℕ) (rs : List Receipt) → AreCalls setting txn events rs → place ≡ place_after setting events → receipts_of place txn (events_of rs) ≡ rs
+pub receipts_of_calls : (setting : Setting) (txn : ℕ) (events : List Event) (place : ℕ) (rs : List Receipt) → AreCalls setting txn events rs →
+    place ≡ place_after setting events → receipts_of place txn (events_of rs) ≡ rs
 receipts_of_calls setting txn events place [] all at = refl
 receipts_of_calls setting txn events place (r ∷ rs) all at =
     let own : r.event.txn ≡ txn = ap (λ (x : Receipt). x.event.txn) all.0.is in
@@ -83,15 +88,19 @@ receipts_of-append place txn (x ∷ xs) ys =
     by_test false rest = rest
 
 -- they came no later than the event behind them
-pub calls_inside : (setting : Setting) (txn : ℕ) (events : List Event) (rs : List Receipt) (end : ℕ) → AreCalls setting txn events rs → place_after setting (events ++ events_of rs) ≤ end → AllByRecursion (λ r. r.place ≤ end) rs
+pub calls_inside : (setting : Setting) (txn : ℕ) (events : List Event) (rs : List Receipt) (end : ℕ) → AreCalls setting txn events rs →
+    place_after setting (events ++ events_of rs) ≤ end → AllByRecursion (λ r. r.place ≤ end) rs
 calls_inside setting txn events [] end all le = tt
 calls_inside setting txn events (r ∷ rs) end all le =
-    let at : r.place ≡ place_after setting events = ap (λ (x : Receipt). x.place) all.0.is in
-    (omega (arith, at, le, length-append events (events_of (r ∷ rs))), calls_inside setting txn (events ++ r.event ∷ []) rs end all.1
-    (omega (arith, le, ap length (append_assoc events (r.event ∷ []) (events_of rs)))))
+    let at : r.place ≡ place_after setting events = ap (λ (x : Receipt). x.place) all.0.is in (
+      omega (arith, at, le, length-append events (events_of (r ∷ rs))),
+      calls_inside setting txn (events ++ r.event ∷ []) rs end all.1
+          (omega (arith, le, ap length (append_assoc events (r.event ∷ []) (events_of rs)))),
+    )
 
 -- the place behind them is the place behind their events
-pub behind_calls : (setting : Setting) (txn : ℕ) (events : List Event) (rs : List Receipt) (place : ℕ) → AreCalls setting txn events rs → place ≡ place_after setting events → behind place rs ≡ place_after setting (events ++ events_of rs)
+pub behind_calls : (setting : Setting) (txn : ℕ) (events : List Event) (rs : List Receipt) (place : ℕ) → AreCalls setting txn events rs →
+    place ≡ place_after setting events → behind place rs ≡ place_after setting (events ++ events_of rs)
 behind_calls setting txn events [] place all at = at ∙ ap (place_after setting) (sym (append-nil events))
 behind_calls setting txn events (r ∷ rs) place all at =
     let here : r.place ≡ place_after setting events = ap (λ (x : Receipt). x.place) all.0.is in

@@ -1,5 +1,6 @@
 -- Where a game in which none is ready is one in which all have ended, the run plays all to their end.
-use Rattle.std.proofs.Common.{◌≡◌, ℕ, suc, ◌+◌, ◌≤◌, List, [], ◌∷◌, ◌++◌, map, Bool, true, false, ◌==◌, ◌||◌, not, ◌&&◌, if◌then◌else◌, Option, Some, None, is_some, is_none, length, nat_cmp, refl, sym, ap, subst, ◌∙◌, arith, eq-eqb}
+use Rattle.std.proofs.Common.{◌≡◌, ℕ, suc, ◌+◌, ◌≤◌, List, [], ◌∷◌, ◌++◌, map, Bool, true, false, ◌==◌, ◌||◌, not, ◌&&◌, if◌then◌else◌, Option, Some, None, is_some, is_none, length}
+use Rattle.std.proofs.Common.{nat_cmp, refl, sym, ap, subst, ◌∙◌, arith, eq-eqb}
 use Rattle.std.specs.List.{AllByRecursion, fold, find}
 use Rattle.std.specs.List.Sorted.{IsStrictlySortedBy}
 use Rattle.std.proofs.lemmas.Bool.Decides.{nat_tests}
@@ -43,11 +44,13 @@ ended_moves setting txns txn =
 eq_of : (a b : ℕ) → (a == b) ≡ true → a ≡ b
 eq_of a b e = grind (arith, nat_tests)
 
-ended_takes : (setting : Setting) (txns : List ℕ) (txn : ℕ) (game : Game) (turn : Turn) (line : Line) → IsTurnOf setting txns game turn → is_some turn.outcome ≡ false → has_ended setting txn game ≡ true → has_ended setting txn (takes turn line game) ≡ true
+ended_takes : (setting : Setting) (txns : List ℕ) (txn : ℕ) (game : Game) (turn : Turn) (line : Line) → IsTurnOf setting txns game turn → is_some turn.outcome ≡ false →
+    has_ended setting txn game ≡ true → has_ended setting txn (takes turn line game) ≡ true
 ended_takes setting txns txn game turn line of_game goes is = by_test (txn == turn.txn) refl
   where
     new : Turn
     new = record turn { lines = turn.lines ++ line ∷ [] }
+
     by_test : (b : Bool) → (txn == turn.txn) ≡ b → has_ended setting txn (takes turn line game) ≡ true
     by_test true e = never (is_some turn.outcome) goes (sym (ap (λ (t : Turn). is_some t.outcome) (ap (λ (n : ℕ). turn_of setting n game.turns) (eq_of txn turn.txn e) ∙ of_game.there)) ∙ is)
     by_test false e = ap (λ (t : Turn). is_some t.outcome) (turn_of_other setting txn new game.turns (λ same. absurd (let k : false ≡ true = sym e ∙ eq-eqb txn turn.txn same in cc))) ∙ is
@@ -62,7 +65,8 @@ ended_steps setting txns txn = record {
 
 ended_stays : (setting : Setting) (txns : List ℕ) (txn : ℕ) (game : Game) → AreAtRest setting txns game → has_ended setting txn game ≡ true → has_ended setting txn (ends_one setting txns game) ≡ true
 ended_stays setting txns txn game at_rest is =
-    (holds_ends_one setting txns (λ left g. has_ended setting txn g ≡ true) game (ended_steps setting txns txn) (record { holds = record { order = at_rest.order; is = is }; at_rest = at_rest })).holds.is
+    (holds_ends_one setting txns (λ left g. has_ended setting txn g ≡ true) game (ended_steps setting txns txn)
+    (record { holds = record { order = at_rest.order; is = is }; at_rest = at_rest })).holds.is
 
 -- The one that is ended.
 
@@ -73,7 +77,8 @@ IsAtEnd (line ∷ lines) = line.deed ≡ End
 ends_it : (line : Line) (lines : List Line) (turn : Turn) → line.deed ≡ End → is_some (ended_at (line ∷ lines) turn).outcome ≡ true
 ends_it line lines turn last = subst (λ (d : LineDeed). is_some (ended_at (record line { deed = d } ∷ lines) turn).outcome ≡ true) (sym last) refl
 
-ended_line : (setting : Setting) (txns : List ℕ) (txn : ℕ) (lines : List Line) (game : Game) → is_in txn txns ≡ true → IsInOrder setting txns game → is_some (turn_of setting txn game.turns).outcome ≡ false → (turn_of setting txn game.turns).lines ≡ lines → IsAtEnd lines →
+ended_line : (setting : Setting) (txns : List ℕ) (txn : ℕ) (lines : List Line) (game : Game) → is_in txn txns ≡ true → IsInOrder setting txns game →
+    is_some (turn_of setting txn game.turns).outcome ≡ false → (turn_of setting txn game.turns).lines ≡ lines → IsAtEnd lines →
     has_ended setting txn (plays_line setting txn lines game) ≡ true
 ended_line setting txns txn [] game number order goes same last = absurd last
 ended_line setting txns txn (line ∷ lines) game number order goes same last =
@@ -97,7 +102,8 @@ ready_free turn ready = by_tests (is_none turn.outcome) turn.waits ready
     by_tests true false e = refl
     by_tests false b e = cc
 
-ended_added : (setting : Setting) (txns : List ℕ) (game : Game) (turn : Turn) → IsTurnOf setting txns game turn → is_ready turn ≡ true → turn.lines ≡ [] → has_ended setting turn.txn (added setting (end_of turn.txn) turn game) ≡ true
+ended_added : (setting : Setting) (txns : List ℕ) (game : Game) (turn : Turn) → IsTurnOf setting txns game turn → is_ready turn ≡ true → turn.lines ≡ [] →
+    has_ended setting turn.txn (added setting (end_of turn.txn) turn game) ≡ true
 ended_added setting txns game turn of_game ready empty =
     subst (λ (g : Game). has_ended setting turn.txn g ≡ true) (sym (on_false (is_some turn.outcome) game _ goes ∙ on_false (is_waiting turn) next _ (ready_free turn ready)))
     (ended_line setting txns turn.txn (turn_of setting turn.txn next.turns).lines next of_game.number order (ap (λ (t : Turn). is_some t.outcome) there ∙ goes) refl
@@ -105,12 +111,16 @@ ended_added setting txns game turn of_game ready empty =
   where
     goes : is_some turn.outcome ≡ false
     goes = ready_goes turn ready
+
     new : Turn
     new = record turn { lines = turn.lines ++ end_of turn.txn ∷ [] }
+
     next : Game
     next = takes turn (end_of turn.txn) game
+
     there : turn_of setting turn.txn next.turns ≡ new
     there = turn_of_with setting new game.turns (ap (is_in turn.txn) of_game.order.numbers ∙ of_game.number)
+
     order : IsInOrder setting txns next
     order = in_order_with setting txns game.events game.released game new of_game.order
         (steady_taking setting turn (end_of turn.txn) goes (record { own = refl; deed = tt }) (turn_has (IsSteady setting) setting txns game turn of_game of_game.order.steady))
@@ -121,9 +131,11 @@ record IsEnded (setting : Setting) (txns : List ℕ) (game : Game) (turn : Turn)
   before : has_ended setting turn.txn game ≡ false
   after : has_ended setting turn.txn (ends_one setting txns game) ≡ true
 
-first_order : (setting : Setting) (txns : List ℕ) (game : Game) (turn : Turn) → IsTurnOf setting txns game turn → AreAtRest setting txns game → find is_ready game.turns ≡ Some turn → IsInOrder setting txns (ends_first setting txns (find is_ready game.turns) game)
+first_order : (setting : Setting) (txns : List ℕ) (game : Game) (turn : Turn) → IsTurnOf setting txns game turn → AreAtRest setting txns game →
+    find is_ready game.turns ≡ Some turn → IsInOrder setting txns (ends_first setting txns (find is_ready game.turns) game)
 first_order setting txns game turn of_game at_rest some =
-    subst (λ (o : Option Turn). IsInOrder setting txns (ends_first setting txns o game)) (sym some) (rest_added setting txns game turn (end_of turn.txn) of_game (record { own = refl; deed = tt }) at_rest).order
+    subst (λ (o : Option Turn). IsInOrder setting txns (ends_first setting txns o game)) (sym some)
+    (rest_added setting txns game turn (end_of turn.txn) of_game (record { own = refl; deed = tt }) at_rest).order
 
 ended_one : (setting : Setting) (txns : List ℕ) (game : Game) (turn : Turn) → AreAtRest setting txns game → find is_ready game.turns ≡ Some turn → IsEnded setting txns game turn
 ended_one setting txns game turn at_rest some =
@@ -164,31 +176,39 @@ unfolding open_in
 open_less setting old new [] still = omega arith
 open_less setting old new (n ∷ ns) still = by_tests (has_ended setting n old) (has_ended setting n new) still.0 (open_less setting old new ns still.1)
   where
-    by_tests : (a b : Bool) → (a ≡ true → b ≡ true) → open_in setting new ns ≤ open_in setting old ns → (if b then open_in setting new ns else 1 + open_in setting new ns) ≤ (if a then open_in setting old ns else 1 + open_in setting old ns)
+    by_tests : (a b : Bool) → (a ≡ true → b ≡ true) → open_in setting new ns ≤ open_in setting old ns →
+        (if b then open_in setting new ns else 1 + open_in setting new ns) ≤ (if a then open_in setting old ns else 1 + open_in setting old ns)
     by_tests true true h rest = rest
     by_tests true false h rest = absurd (let k : false ≡ true = h refl in cc)
     by_tests false true h rest = omega (arith, rest)
     by_tests false false h rest = omega (arith, rest)
 
-open_fewer : (setting : Setting) (old new : Game) (m : ℕ) (ns : List ℕ) → AreStill setting old new ns → is_in m ns ≡ true → has_ended setting m old ≡ false → has_ended setting m new ≡ true → 1 + open_in setting new ns ≤ open_in setting old ns
+open_fewer : (setting : Setting) (old new : Game) (m : ℕ) (ns : List ℕ) → AreStill setting old new ns → is_in m ns ≡ true → has_ended setting m old ≡ false →
+    has_ended setting m new ≡ true → 1 + open_in setting new ns ≤ open_in setting old ns
 unfolding open_in
 open_fewer setting old new m [] still there before behind_it = absurd (let k : false ≡ true = there in cc)
 open_fewer setting old new m (n ∷ ns) still there before behind_it = by_number (n == m) refl there (open_fewer setting old new m ns still.1)
   where
-    by_tests : (a b : Bool) → (a ≡ true → b ≡ true) → 1 + open_in setting new ns ≤ open_in setting old ns → 1 + (if b then open_in setting new ns else 1 + open_in setting new ns) ≤ (if a then open_in setting old ns else 1 + open_in setting old ns)
+    by_tests : (a b : Bool) → (a ≡ true → b ≡ true) → 1 + open_in setting new ns ≤ open_in setting old ns →
+        1 + (if b then open_in setting new ns else 1 + open_in setting new ns) ≤ (if a then open_in setting old ns else 1 + open_in setting old ns)
     by_tests true true h rest = rest
     by_tests true false h rest = absurd (let k : false ≡ true = h refl in cc)
     by_tests false true h rest = omega (arith, rest)
     by_tests false false h rest = omega (arith, rest)
-    here : (a b : Bool) → a ≡ false → b ≡ true → open_in setting new ns ≤ open_in setting old ns → 1 + (if b then open_in setting new ns else 1 + open_in setting new ns) ≤ (if a then open_in setting old ns else 1 + open_in setting old ns)
+
+    here : (a b : Bool) → a ≡ false → b ≡ true → open_in setting new ns ≤ open_in setting old ns →
+        1 + (if b then open_in setting new ns else 1 + open_in setting new ns) ≤ (if a then open_in setting old ns else 1 + open_in setting old ns)
     here true b h k rest = absurd (let x : true ≡ false = h in cc)
     here false true h k rest = omega (arith, rest)
     here false false h k rest = absurd (let x : false ≡ true = k in cc)
-    by_number : (b : Bool) → (n == m) ≡ b → (b || is_in m ns) ≡ true → (is_in m ns ≡ true → has_ended setting m old ≡ false → has_ended setting m new ≡ true → 1 + open_in setting new ns ≤ open_in setting old ns) →
+
+    by_number : (b : Bool) → (n == m) ≡ b → (b || is_in m ns) ≡ true →
+        (is_in m ns ≡ true → has_ended setting m old ≡ false → has_ended setting m new ≡ true → 1 + open_in setting new ns ≤ open_in setting old ns) →
         1 + (if has_ended setting n new then open_in setting new ns else 1 + open_in setting new ns) ≤ (if has_ended setting n old then open_in setting old ns else 1 + open_in setting old ns)
     by_number true e h later =
         let same = eq_of n m e in
-        here (has_ended setting n old) (has_ended setting n new) (ap (λ (k : ℕ). has_ended setting k old) same ∙ before) (ap (λ (k : ℕ). has_ended setting k new) same ∙ behind_it) (open_less setting old new ns still.1)
+        here (has_ended setting n old) (has_ended setting n new) (ap (λ (k : ℕ). has_ended setting k old) same ∙ before)
+        (ap (λ (k : ℕ). has_ended setting k new) same ∙ behind_it) (open_less setting old new ns still.1)
     by_number false e h later = by_tests (has_ended setting n old) (has_ended setting n new) still.0 (later h before behind_it)
 
 open_none : (setting : Setting) (game : Game) (ns : List ℕ) → AllByRecursion (λ n. has_ended setting n game ≡ true) ns → open_in setting game ns ≡ 0
@@ -201,7 +221,8 @@ unfolding open_in
 none_open setting game [] none = tt
 none_open setting game (n ∷ ns) none = by_test (has_ended setting n game) refl none (none_open setting game ns)
   where
-    by_test : (b : Bool) → has_ended setting n game ≡ b → (if b then open_in setting game ns else 1 + open_in setting game ns) ≤ 0 → (open_in setting game ns ≤ 0 → AllByRecursion (λ k. has_ended setting k game ≡ true) ns) → AllByRecursion (λ k. has_ended setting k game ≡ true) (n ∷ ns)
+    by_test : (b : Bool) → has_ended setting n game ≡ b → (if b then open_in setting game ns else 1 + open_in setting game ns) ≤ 0 →
+        (open_in setting game ns ≤ 0 → AllByRecursion (λ k. has_ended setting k game ≡ true) ns) → AllByRecursion (λ k. has_ended setting k game ≡ true) (n ∷ ns)
     by_test true e h later = (e, later h)
     by_test false e h later = absurd (omega (arith, h))
 
@@ -209,11 +230,13 @@ all_still : (setting : Setting) (txns ns : List ℕ) (game : Game) → AreAtRest
 all_still setting txns [] game at_rest = tt
 all_still setting txns (n ∷ ns) game at_rest = ((λ is. ended_stays setting txns n game at_rest is), all_still setting txns ns game at_rest)
 
-all_ended : (setting : Setting) (game : Game) (ns txns : List ℕ) → AllByRecursion (λ n. is_in n txns ≡ true) ns → ((n : ℕ) → is_in n txns ≡ true → has_ended setting n game ≡ true) → AllByRecursion (λ n. has_ended setting n game ≡ true) ns
+all_ended : (setting : Setting) (game : Game) (ns txns : List ℕ) → AllByRecursion (λ n. is_in n txns ≡ true) ns →
+    ((n : ℕ) → is_in n txns ≡ true → has_ended setting n game ≡ true) → AllByRecursion (λ n. has_ended setting n game ≡ true) ns
 all_ended setting game [] txns of_them all = tt
 all_ended setting game (n ∷ ns) txns of_them all = (all n of_them.0, all_ended setting game ns txns of_them.1 all)
 
-ends_all : (setting : Setting) (txns : List ℕ) (P : List Line → Game → Type 0) (left : List ℕ) (game : Game) → KeepsSteps setting txns P → IsNeverStuck setting txns (P []) → HoldsBetween setting txns (P []) game → open_in setting game txns ≤ length left →
+ends_all : (setting : Setting) (txns : List ℕ) (P : List Line → Game → Type 0) (left : List ℕ) (game : Game) → KeepsSteps setting txns P →
+    IsNeverStuck setting txns (P []) → HoldsBetween setting txns (P []) game → open_in setting game txns ≤ length left →
     AllByRecursion (λ n. has_ended setting n (fold (λ g (txn : ℕ). ends_one setting txns g) game left) ≡ true) txns
 ends_all setting txns P [] game keeps stuck between few = none_open setting game txns few
 ends_all setting txns P (txn ∷ left) game keeps stuck between few =
@@ -221,6 +244,7 @@ ends_all setting txns P (txn ∷ left) game keeps stuck between few =
   where
     still : AreStill setting game (ends_one setting txns game) txns
     still = all_still setting txns txns game between.at_rest
+
     by_found : (found : Option Turn) → find is_ready game.turns ≡ found → open_in setting (ends_one setting txns game) txns ≤ length left
     by_found None none =
         let over = open_none setting game txns (all_ended setting game txns txns (are_of txns) (stuck game between none)) in
@@ -243,7 +267,8 @@ in_all setting game n (m ∷ ms) all there = by_test (m == n) refl there (in_all
     by_test true e h later = subst (is_over_at setting game) (eq_of m n e) all.0
     by_test false e h later = later h
 
-seats_over : (setting : Setting) (txns : List ℕ) (game : Game) (turns : List Turn) → AreAtRest setting txns game → AllByRecursion (λ n. has_ended setting n game ≡ true) txns → AllByRecursion (IsPlaced setting game.turns) turns → AllByRecursion (λ t. IsOver (seat_at t)) turns
+seats_over : (setting : Setting) (txns : List ℕ) (game : Game) (turns : List Turn) → AreAtRest setting txns game →
+    AllByRecursion (λ n. has_ended setting n game ≡ true) txns → AllByRecursion (IsPlaced setting game.turns) turns → AllByRecursion (λ t. IsOver (seat_at t)) turns
 seats_over setting txns game [] at_rest ended placed = tt
 seats_over setting txns game (t ∷ ts) at_rest ended placed =
     let there = placed.0.there in
@@ -256,10 +281,12 @@ pub record PlaysOut (setting : Setting) (txns : List ℕ) (game : Game) : Type 0
   pub numbers_are : map (λ t. t.txn) game.turns ≡ txns
   pub over : AllByRecursion (λ t. IsOver (seat_at t)) game.turns
 
-pub plays_out : (setting : Setting) (txns : List ℕ) (P : List Line → Game → Type 0) (lines : List Line) → KeepsSteps setting txns P → IsNeverStuck setting txns (P []) → IsStrictlySortedBy nat_cmp txns → AllByRecursion (IsFit setting txns) lines →
+pub plays_out : (setting : Setting) (txns : List ℕ) (P : List Line → Game → Type 0) (lines : List Line) → KeepsSteps setting txns P → IsNeverStuck setting txns (P []) →
+    IsStrictlySortedBy nat_cmp txns → AllByRecursion (IsFit setting txns) lines →
     P lines (opening_game setting txns) → PlaysOut setting txns (played setting txns lines)
 plays_out setting txns P lines keeps stuck sorted fit first =
-    let middle = holds_all_taken setting txns P lines (opening_game setting txns) keeps fit (record { holds = record { order = (opening_at_rest setting txns sorted).order; is = first }; at_rest = opening_at_rest setting txns sorted }) in
+    let middle = holds_all_taken setting txns P lines (opening_game setting txns) keeps fit
+    (record { holds = record { order = (opening_at_rest setting txns sorted).order; is = first }; at_rest = opening_at_rest setting txns sorted }) in
     let last = holds_all_ended setting txns P txns (fold (takes_line setting txns) (opening_game setting txns) lines) keeps middle in
     let ended = ends_all setting txns P txns (fold (takes_line setting txns) (opening_game setting txns) lines) keeps stuck middle (open_few setting _ txns) in
     let game = played setting txns lines in

@@ -29,9 +29,11 @@ in_with n (m ∷ ms) = by_tests (nat_lt n m) (n == m) refl (in_with n ms)
     same : (b c : Bool) → b ≡ true → (b || c) ≡ true
     same true c e = refl
     same false c e = cc
+
     later : (b c : Bool) → c ≡ true → (b || c) ≡ true
     later true c e = refl
     later false c e = e
+
     by_tests : (a b : Bool) → (n == m) ≡ b → is_in n (with_number n ms) ≡ true → is_in n (if a then n ∷ m ∷ ms else if b then m ∷ ms else m ∷ with_number n ms) ≡ true
     by_tests true b e rest = same (n == n) _ (eq-eqb n n refl)
     by_tests false true e rest = same (m == n) _ (eq-eqb m n (let is : n ≡ m = grind (arith, nat_tests) in sym is))
@@ -47,9 +49,11 @@ in_with_more m n (k ∷ ks) there =
     spread true b = refl
     spread false true = refl
     spread false false = refl
+
     or_later : (a b : Bool) → b ≡ true → (a || b) ≡ true
     or_later true b e = refl
     or_later false b e = e
+
     by_tests : (a b c : Bool) → (c || is_in m ks) ≡ true → (is_in m ks ≡ true → is_in m (with_number n ks) ≡ true) →
         (if a then (n == m || (c || is_in m ks)) else if b then (c || is_in m ks) else (c || is_in m (with_number n ks))) ≡ true
     by_tests true b c h later = or_later (n == m) (c || is_in m ks) h
@@ -94,7 +98,8 @@ fit_deed setting Abort inside one = tt
 fit_deed setting (Escalate tree) inside one = grind (arith, nat_tests)
 fit_deed setting Big inside one = tt
 
-fit_after : (trace : TraceView) (first : ℕ) (before lines : List Line) → AreFaultless (trace.version ∷ trace.trees ∷ trace.limit ∷ trace.buffer ∷ []) before lines → AllByRecursion (λ l. IsFitDeed (setting_of trace 1 first) l.deed) lines
+fit_after : (trace : TraceView) (first : ℕ) (before lines : List Line) → AreFaultless (trace.version ∷ trace.trees ∷ trace.limit ∷ trace.buffer ∷ []) before lines →
+    AllByRecursion (λ l. IsFitDeed (setting_of trace 1 first) l.deed) lines
 fit_after trace first before [] all = tt
 fit_after trace first before (line ∷ lines) all =
     let none = none_first (fault_of_deed line.number trace.trees line.deed) (fault_of_turn line.number before line.txn) all.0.says in (
@@ -104,11 +109,13 @@ fit_after trace first before (line ∷ lines) all =
       fit_after trace first (before ++ line ∷ []) lines all.1,
     )
 
-fit_body : (trace : TraceView) (first : ℕ) (lines : List Line) → IsBody (trace.version ∷ trace.trees ∷ trace.limit ∷ trace.buffer ∷ []) lines → AllByRecursion (λ l. IsFitDeed (setting_of trace 1 first) l.deed) lines
+fit_body : (trace : TraceView) (first : ℕ) (lines : List Line) → IsBody (trace.version ∷ trace.trees ∷ trace.limit ∷ trace.buffer ∷ []) lines →
+    AllByRecursion (λ l. IsFitDeed (setting_of trace 1 first) l.deed) lines
 fit_body trace first [] body = tt
 fit_body trace first (line ∷ lines) body = fit_after trace first [] (line ∷ lines) body.1
 
-both_fit : (setting : Setting) (txns : List ℕ) (lines : List Line) → AllByRecursion (λ l. is_in l.txn txns ≡ true) lines → AllByRecursion (λ l. IsFitDeed setting l.deed) lines → AllByRecursion (IsFit setting txns) lines
+both_fit : (setting : Setting) (txns : List ℕ) (lines : List Line) → AllByRecursion (λ l. is_in l.txn txns ≡ true) lines →
+    AllByRecursion (λ l. IsFitDeed setting l.deed) lines → AllByRecursion (IsFit setting txns) lines
 both_fit setting txns [] there deeds = tt
 both_fit setting txns (line ∷ lines) there deeds = (record { number = there.0; deed = deeds.0 }, both_fit setting txns lines there.1 deeds.1)
 

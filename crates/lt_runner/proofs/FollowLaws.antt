@@ -1,5 +1,6 @@
 -- A turn of the plain scheduler is what its transaction has come to, with the lines of the trace that are still to come behind its own.
-use Rattle.std.proofs.Common.{◌≡◌, ◌≢◌, ℕ, ◌+◌, ◌≤◌, List, [], ◌∷◌, ◌++◌, Bool, true, false, ◌==◌, ◌||◌, not, if◌then◌else◌, Option, Some, None, IfSome, is_some, IsTrue, length, ◌⊎◌, inl, inr, refl, sym, ap, subst, ◌∙◌, arith, append-nil, append_assoc, eq-eqb}
+use Rattle.std.proofs.Common.{◌≡◌, ◌≢◌, ℕ, ◌+◌, ◌≤◌, List, [], ◌∷◌, ◌++◌, Bool, true, false, ◌==◌, ◌||◌, not, if◌then◌else◌, Option, Some, None, IfSome, is_some, IsTrue, length, ◌⊎◌}
+use Rattle.std.proofs.Common.{inl, inr, refl, sym, ap, subst, ◌∙◌, arith, append-nil, append_assoc, eq-eqb}
 use Rattle.std.specs.List.{list_any, filter}
 use Rattle.std.proofs.lemmas.Bool.Decides.{nat_tests}
 use Rattle.lt_ranges.specs.Interval.{Interval}
@@ -73,7 +74,8 @@ locked_in_play left turn line lines tree range (HeldBy owners) None goes =
 locked_in_play left turn line lines tree range (HeldBy owners) (Some walk) goes = refl
 
 asked_in_play : (left : List Line) (turn : Turn) (line : Line) (lines : List Line) (reply : Reply) (walk : Option (List Edge)) (deed : LineDeed) → is_ask deed ≡ true →
-    asked_at (record line { deed = deed } ∷ lines_behind turn.txn deed (lines ++ to_come turn.txn left)) reply walk (at_lines turn (record line { deed = deed } ∷ lines_behind turn.txn deed (lines ++ to_come turn.txn left)))
+    asked_at (record line { deed = deed } ∷ lines_behind turn.txn deed (lines ++ to_come turn.txn left)) reply walk
+    (at_lines turn (record line { deed = deed } ∷ lines_behind turn.txn deed (lines ++ to_come turn.txn left)))
     ≡ in_play left (asked_at (record line { deed = deed } ∷ lines) reply walk (at_lines turn (record line { deed = deed } ∷ lines)))
 asked_in_play left turn line lines reply walk (Try tree range) asking = answered_in_play left turn (record line { deed = Try tree range }) lines tree range reply
 asked_in_play left turn line lines reply walk (Lock tree range) asking = locked_in_play left turn (record line { deed = Lock tree range }) lines tree range reply walk refl
@@ -83,8 +85,10 @@ asked_in_play left turn line lines reply walk (Escalate tree) asking = false_tru
 asked_in_play left turn line lines reply walk Big asking = false_true asking
 
 -- a move does the same to the turn and to the turn with all its lines
-after_in_play : (setting : Setting) (history : List Event) (past : Past) (old : Turn) (left : List Line) (turn : Turn) (line : Line) (lines : List Line) (deed : LineDeed) (move : Move) → MayDo false setting history (record { turn = old; past = past }) deed move →
-    turn_after (at_lines turn (record line { deed = deed } ∷ lines_behind turn.txn deed (lines ++ to_come turn.txn left))) move ≡ in_play left (turn_after (at_lines turn (record line { deed = deed } ∷ lines)) move)
+after_in_play : (setting : Setting) (history : List Event) (past : Past) (old : Turn) (left : List Line) (turn : Turn) (line : Line) (lines : List Line) (deed : LineDeed)
+    (move : Move) → MayDo false setting history (record { turn = old; past = past }) deed move →
+    turn_after (at_lines turn (record line { deed = deed } ∷ lines_behind turn.txn deed (lines ++ to_come turn.txn left))) move
+    ≡ in_play left (turn_after (at_lines turn (record line { deed = deed } ∷ lines)) move)
 after_in_play setting history past old left turn line lines deed (leaves joins) may = false_true may.0
 after_in_play setting history past old left turn line lines deed (asks joins ask) may = asked_in_play left turn line lines (reply_in ask.event.deed) None deed may.1
 after_in_play setting history past old left turn line lines deed (waits joins ask wishes found) may = asked_in_play left turn line lines (reply_in ask.event.deed) _ deed may.1
@@ -92,7 +96,8 @@ after_in_play setting history past old left turn line lines deed (stops joins pl
 after_in_play setting history past old left turn line lines deed (escalates join) may = by_deed deed may.0 may.1
   where
     by_deed : (d : LineDeed) → not (is_ask d) ≡ true → line_question d ≡ Some (question join.event.deed) →
-        turn_after (at_lines turn (record line { deed = d } ∷ lines_behind turn.txn d (lines ++ to_come turn.txn left))) (escalates join) ≡ in_play left (turn_after (at_lines turn (record line { deed = d } ∷ lines)) (escalates join))
+        turn_after (at_lines turn (record line { deed = d } ∷ lines_behind turn.txn d (lines ++ to_come turn.txn left))) (escalates join)
+        ≡ in_play left (turn_after (at_lines turn (record line { deed = d } ∷ lines)) (escalates join))
     by_deed (Try tree range) e q = false_true e
     by_deed (Lock tree range) e q = false_true e
     by_deed End e q = absurd cc
@@ -101,7 +106,8 @@ after_in_play setting history past old left turn line lines deed (escalates join
     by_deed Big e q = absurd cc
 after_in_play setting history past old left turn line lines deed grows may = by_deed deed may
   where
-    by_deed : (d : LineDeed) → is_big d ≡ true → turn_after (at_lines turn (record line { deed = d } ∷ lines_behind turn.txn d (lines ++ to_come turn.txn left))) grows ≡ in_play left (turn_after (at_lines turn (record line { deed = d } ∷ lines)) grows)
+    by_deed : (d : LineDeed) → is_big d ≡ true → turn_after (at_lines turn (record line { deed = d } ∷ lines_behind turn.txn d (lines ++ to_come turn.txn left))) grows
+        ≡ in_play left (turn_after (at_lines turn (record line { deed = d } ∷ lines)) grows)
     by_deed (Try tree range) e = false_true e
     by_deed (Lock tree range) e = false_true e
     by_deed End e = false_true e
@@ -110,7 +116,8 @@ after_in_play setting history past old left turn line lines deed grows may = by_
     by_deed Big e = refl
 after_in_play setting history past old left turn line lines deed ends may = by_deed deed may
   where
-    by_deed : (d : LineDeed) → is_last d ≡ true → turn_after (at_lines turn (record line { deed = d } ∷ lines_behind turn.txn d (lines ++ to_come turn.txn left))) ends ≡ in_play left (turn_after (at_lines turn (record line { deed = d } ∷ lines)) ends)
+    by_deed : (d : LineDeed) → is_last d ≡ true → turn_after (at_lines turn (record line { deed = d } ∷ lines_behind turn.txn d (lines ++ to_come turn.txn left))) ends
+        ≡ in_play left (turn_after (at_lines turn (record line { deed = d } ∷ lines)) ends)
     by_deed (Try tree range) e = false_true e
     by_deed (Lock tree range) e = false_true e
     by_deed End e = refl
@@ -135,7 +142,8 @@ in_play_open left turn line lines goes same =
 pub in_play_over : (left : List Line) (turn : Turn) → is_some turn.outcome ≡ true → in_play left turn ≡ turn
 in_play_over left turn ended = on_true (is_some turn.outcome) turn _ ended
 
-pub in_play_after : (setting : Setting) (history : List Event) (past : Past) (old : Turn) (left : List Line) (turn : Turn) (line : Line) (lines : List Line) (move : Move) → is_some turn.outcome ≡ false → turn.lines ≡ line ∷ lines →
+pub in_play_after : (setting : Setting) (history : List Event) (past : Past) (old : Turn) (left : List Line) (turn : Turn) (line : Line) (lines : List Line)
+    (move : Move) → is_some turn.outcome ≡ false → turn.lines ≡ line ∷ lines →
     MayDo false setting history (record { turn = old; past = past }) line.deed move →
     turn_after (at_lines turn (line ∷ lines_behind turn.txn line.deed (lines ++ to_come turn.txn left))) move ≡ in_play left (turn_after turn move)
 in_play_after setting history past old left turn line lines move goes same may =
@@ -155,9 +163,11 @@ wish_in_play setting left turn steady = by_outcome (is_some turn.outcome) refl
     at_lock : (lines : List Line) → IsAtLock lines → next_wish turn.txn (with_end turn.txn (lines ++ to_come turn.txn left)) ≡ next_wish turn.txn lines
     at_lock [] lock = absurd lock
     at_lock (line ∷ lines) lock = ap (next_wish turn.txn) (with_end_behind turn.txn line (lines ++ to_come turn.txn left))
+
     by_waiting : (b : Bool) → turn.waits ≡ b → (if b then next_wish turn.txn (with_end turn.txn (turn.lines ++ to_come turn.txn left)) else None) ≡ (if b then next_wish turn.txn turn.lines else None)
     by_waiting true held = at_lock turn.lines (steady.held held)
     by_waiting false held = refl
+
     by_outcome : (b : Bool) → is_some turn.outcome ≡ b → wish_of (if b then turn else record turn { lines = with_end turn.txn (turn.lines ++ to_come turn.txn left) }) ≡ wish_of turn
     by_outcome true ended = refl
     by_outcome false goes = by_waiting turn.waits refl
@@ -184,12 +194,14 @@ rightly stage wishes false waiting same held = record {
 }
 
 -- a search of this transaction begins, behind all of the history
-pub comes_searched : (setting : Setting) (lines left : List Line) (searches : List Search) (s : Search) (events : List Event) (turn : Turn) → place_after setting events ≤ s.place → IsSteady setting turn →
+pub comes_searched : (setting : Setting) (lines left : List Line) (searches : List Search) (s : Search) (events : List Event) (turn : Turn) →
+    place_after setting events ≤ s.place → IsSteady setting turn →
     (s.txn ≢ turn.txn → wish_in turn.txn s.wishes ≡ wish_of turn) → Comes setting lines left searches events turn → Comes setting lines left (searches ++ s ∷ []) events turn
 comes_searched setting lines left searches s events turn le steady wish comes = record {
-  come = search_more false setting searches s events (opening_stage setting turn.txn (lines_for turn.txn lines)) (seat_at (in_play left turn)) (receipts_of setting.plan.first turn.txn events) le (receipts_within setting.plan.first turn.txn events)
+  come = search_more false setting searches s events (opening_stage setting turn.txn (lines_for turn.txn lines)) (seat_at (in_play left turn))
+      (receipts_of setting.plan.first turn.txn events) le (receipts_within setting.plan.first turn.txn events)
       (λ other past fits. rightly (record { turn = in_play left turn; past = past }) s.wishes (in_play left turn).waits refl
-          (ap (λ (n : ℕ). wish_in n s.wishes) (in_play_txn left turn) ∙ wish other ∙ sym (wish_in_play setting left turn steady)) fits.held) comes.come;
+      (ap (λ (n : ℕ). wish_in n s.wishes) (in_play_txn left turn) ∙ wish other ∙ sym (wish_in_play setting left turn steady)) fits.held) comes.come;
 }
 
 -- others act
@@ -198,25 +210,30 @@ pub comes_stays : (setting : Setting) (lines left : List Line) (searches : List 
 comes_stays setting lines left searches events more turn other own differs comes =
     let first = setting.plan.first in
     let same : receipts_of first turn.txn (events ++ more) ≡ receipts_of first turn.txn events =
-    receipts_of-append first turn.txn events more ∙ ap (λ (rs : List Receipt). receipts_of first turn.txn events ++ rs) (none_of_calls (first + length events) turn.txn other more own differs) ∙ append-nil (receipts_of first turn.txn events) in
+    receipts_of-append first turn.txn events more ∙ ap (λ (rs : List Receipt). receipts_of first turn.txn events ++ rs)
+    (none_of_calls (first + length events) turn.txn other more own differs) ∙ append-nil (receipts_of first turn.txn events) in
     record {
       come = subst (λ (rs : List Receipt). HasCome false setting searches (events ++ more) (opening_stage setting turn.txn (lines_for turn.txn lines)) (seat_at (in_play left turn)) rs) (sym same)
           (come_stays false setting searches events more (opening_stage setting turn.txn (lines_for turn.txn lines)) (seat_at (in_play left turn)) (receipts_of first turn.txn events) comes.come);
     }
 
 -- a move of its own
-pub comes_moved : (setting : Setting) (lines left : List Line) (searches found : List Search) (events : List Event) (turn new : Turn) (made : List Receipt) (move : Move) → Fits searches found (place_after setting events) turn.txn → IsAmong found turn.txn move →
+pub comes_moved : (setting : Setting) (lines left : List Line) (searches found : List Search) (events : List Event) (turn new : Turn) (made : List Receipt)
+    (move : Move) → Fits searches found (place_after setting events) turn.txn → IsAmong found turn.txn move →
     new.txn ≡ turn.txn → AreCalls setting turn.txn events made → MovesBy false setting events (events ++ events_of made) (seat_at (in_play left turn)) (seat_at (in_play left new)) made move →
     Comes setting lines left searches events turn → Comes setting lines left searches (events ++ events_of made) new
 comes_moved setting lines left searches found events turn new made move fits among same calls moves comes =
     let first = setting.plan.first in
     let opening = opening_stage setting turn.txn (lines_for turn.txn lines) in
     let grown : receipts_of first turn.txn events ++ made ≡ receipts_of first turn.txn (events ++ events_of made) =
-    ap (λ (rs : List Receipt). receipts_of first turn.txn events ++ rs) (sym (receipts_of_calls setting turn.txn events (first + length events) made calls refl)) ∙ sym (receipts_of-append first turn.txn events (events_of made)) in
+    ap (λ (rs : List Receipt). receipts_of first turn.txn events ++ rs) (sym (receipts_of_calls setting turn.txn events (first + length events) made calls refl))
+    ∙ sym (receipts_of-append first turn.txn events (events_of made)) in
     record {
-      come = subst (λ (n : ℕ). HasCome false setting searches (events ++ events_of made) (opening_stage setting n (lines_for n lines)) (seat_at (in_play left new)) (receipts_of first n (events ++ events_of made))) (sym same)
+      come = subst (λ (n : ℕ). HasCome false setting searches (events ++ events_of made) (opening_stage setting n (lines_for n lines)) (seat_at (in_play left new))
+          (receipts_of first n (events ++ events_of made))) (sym same)
           (subst (λ (rs : List Receipt). HasCome false setting searches (events ++ events_of made) opening (seat_at (in_play left new)) rs) grown
-          (come_more false setting searches found events (events_of made) opening (seat_at (in_play left turn)) (seat_at (in_play left new)) (receipts_of first turn.txn events) made move (at_line_opening setting turn.txn (lines_for turn.txn lines)) fits among comes.come moves));
+          (come_more false setting searches found events (events_of made) opening (seat_at (in_play left turn)) (seat_at (in_play left new))
+          (receipts_of first turn.txn events) made move (at_line_opening setting turn.txn (lines_for turn.txn lines)) fits among comes.come moves));
     }
 
 -- the same turn with its lines told apart otherwise
@@ -224,7 +241,8 @@ pub comes_same : (setting : Setting) (lines left later : List Line) (searches : 
     Comes setting lines left searches events turn → Comes setting lines later searches events new
 comes_same setting lines left later searches events turn new same lines_same comes = record {
   come = subst (λ (n : ℕ). HasCome false setting searches events (opening_stage setting n (lines_for n lines)) (seat_at (in_play later new)) (receipts_of setting.plan.first n events)) (sym same)
-      (subst (λ (t : Turn). HasCome false setting searches events (opening_stage setting turn.txn (lines_for turn.txn lines)) (seat_at t) (receipts_of setting.plan.first turn.txn events)) lines_same comes.come);
+      (subst (λ (t : Turn). HasCome false setting searches events (opening_stage setting turn.txn (lines_for turn.txn lines)) (seat_at t)
+      (receipts_of setting.plan.first turn.txn events)) lines_same comes.come);
 }
 
 -- Lines move from those to come to the turn's own.
@@ -237,20 +255,25 @@ to_come_other txn line left differs = on_false (line.txn == txn) _ _ (by_test (l
     by_test false e = e
 
 pub play_other : (line : Line) (left : List Line) (turn : Turn) → line.txn ≢ turn.txn → in_play (line ∷ left) turn ≡ in_play left turn
-play_other line left turn differs = ap (λ (ls : List Line). if is_some turn.outcome then turn else record turn { lines = with_end turn.txn (turn.lines ++ ls) }) (to_come_other turn.txn line left differs)
+play_other line left turn differs = ap (λ (ls : List Line). if is_some turn.outcome then turn else record turn { lines = with_end turn.txn (turn.lines ++ ls) })
+    (to_come_other turn.txn line left differs)
 
-pub play_taken : (line : Line) (left : List Line) (turn : Turn) → line.txn ≡ turn.txn → in_play (line ∷ left) turn ≡ in_play left (record turn { lines = turn.lines ++ line ∷ [] }) ⊎ (is_some turn.outcome ≡ true)
+pub play_taken : (line : Line) (left : List Line) (turn : Turn) → line.txn ≡ turn.txn →
+    in_play (line ∷ left) turn ≡ in_play left (record turn { lines = turn.lines ++ line ∷ [] }) ⊎ (is_some turn.outcome ≡ true)
 play_taken line left turn own = by_outcome (is_some turn.outcome) refl
   where
     lines_same : turn.lines ++ to_come turn.txn (line ∷ left) ≡ (turn.lines ++ line ∷ []) ++ to_come turn.txn left
-    lines_same = ap (λ (ls : List Line). turn.lines ++ ls) (on_true (line.txn == turn.txn) (line ∷ to_come turn.txn left) (to_come turn.txn left) (eq-eqb line.txn turn.txn own)) ∙ sym (append_assoc turn.lines (line ∷ []) (to_come turn.txn left))
+    lines_same = ap (λ (ls : List Line). turn.lines ++ ls)
+        (on_true (line.txn == turn.txn) (line ∷ to_come turn.txn left) (to_come turn.txn left) (eq-eqb line.txn turn.txn own))
+        ∙ sym (append_assoc turn.lines (line ∷ []) (to_come turn.txn left))
+
     by_outcome : (b : Bool) → is_some turn.outcome ≡ b → in_play (line ∷ left) turn ≡ in_play left (record turn { lines = turn.lines ++ line ∷ [] }) ⊎ (is_some turn.outcome ≡ true)
     by_outcome true ended = inr ended
     by_outcome false goes = inl (
-      on_false (is_some turn.outcome) turn _ goes
-      ∙ ap (λ (ls : List Line). record turn { lines = with_end turn.txn ls }) lines_same
-      ∙ sym (on_false (is_some turn.outcome) (record turn { lines = turn.lines ++ line ∷ [] }) _ goes)
-    )
+        on_false (is_some turn.outcome) turn _ goes
+        ∙ ap (λ (ls : List Line). record turn { lines = with_end turn.txn ls }) lines_same
+        ∙ sym (on_false (is_some turn.outcome) (record turn { lines = turn.lines ++ line ∷ [] }) _ goes)
+        )
 
 -- the end line of a transaction that had none
 pub play_ended : (turn : Turn) → turn.lines ≡ [] → is_some turn.outcome ≡ false → in_play [] turn ≡ in_play [] (record turn { lines = turn.lines ++ end_of turn.txn ∷ [] })

@@ -45,4 +45,5 @@ pub serial_text : (trace : TraceView) (first : ℕ) → IsTrace trace → IsRunT
 serial_text trace first is_trace =
     let setting = setting_of trace 1 first in
     let txns = txns_of trace.lines in
-    text_of_run trace first AreNoLocks (fit_of_trace trace first is_trace) (no_locks_keeps setting txns) (no_locks_first setting txns trace.lines (no_locks trace is_trace)) (no_locks_free setting txns)
+    text_of_run trace first AreNoLocks (fit_of_trace trace first is_trace) (no_locks_keeps setting txns)
+    (no_locks_first setting txns trace.lines (no_locks trace is_trace)) (no_locks_free setting txns)

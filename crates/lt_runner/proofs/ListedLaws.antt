@@ -1,5 +1,6 @@
 -- A search more, of one transaction: the others are listed rightly in it where they are now.
-use Rattle.std.proofs.Common.{◌≡◌, ◌≢◌, Contains, ℕ, zero, suc, ◌+◌, ◌<◌, ◌≤◌, List, [], ◌∷◌, ◌++◌, Bool, true, false, ◌==◌, ◌&&◌, nat_lt, nat_le, if◌then◌else◌, length, refl, sym, ap, subst, ◌∙◌, arith}
+use Rattle.std.proofs.Common.{◌≡◌, ◌≢◌, Contains, ℕ, zero, suc, ◌+◌, ◌<◌, ◌≤◌, List, [], ◌∷◌, ◌++◌, Bool, true, false, ◌==◌, ◌&&◌, nat_lt, nat_le, if◌then◌else◌, length, refl, sym}
+use Rattle.std.proofs.Common.{ap, subst, ◌∙◌, arith}
 use Rattle.std.specs.List.{AllByRecursion, list_all, flat_map}
 use Rattle.std.proofs.lemmas.Bool.Decides.{nat_tests}
 use Rattle.lt_seq.specs.declared.event.Event.{Event}
@@ -48,7 +49,8 @@ no_stop since [] joins p rows may = may
 no_stop since (r ∷ rs) joins p rows may = may
 
 -- a move of the history is before each place behind it
-move_before : (crew : Bool) (setting : Setting) (history : List Event) (stage : Stage) (lines : List Line) (move : Move) (place : ℕ) → IsMove crew setting history stage lines move → AllByRecursion (λ r. r.place < place) (receipts_in move) →
+move_before : (crew : Bool) (setting : Setting) (history : List Event) (stage : Stage) (lines : List Line) (move : Move) (place : ℕ) →
+    IsMove crew setting history stage lines move → AllByRecursion (λ r. r.place < place) (receipts_in move) →
     place_after setting history ≤ place → is_before place move ≡ true
 move_before crew setting history stage lines (leaves joins) place may all le = all_below place joins all
 move_before crew setting history stage lines (asks joins ask) place may all le = below ask.place place (split_all (λ r. r.place < place) joins (ask ∷ []) all).1.0
@@ -60,7 +62,8 @@ move_before crew setting history stage lines grows place may all le = refl
 move_before crew setting history stage lines ends place may all le = refl
 move_before crew setting history stage lines (frees free) place may all le = below free.place place all.0
 
-all_before : (crew : Bool) (setting : Setting) (history : List Event) (stage : Stage) (moves : List Move) (place : ℕ) → ArePlayed crew setting history stage moves → AllByRecursion (λ r. r.place < place) (flat_map receipts_in moves) →
+all_before : (crew : Bool) (setting : Setting) (history : List Event) (stage : Stage) (moves : List Move) (place : ℕ) → ArePlayed crew setting history stage moves →
+    AllByRecursion (λ r. r.place < place) (flat_map receipts_in moves) →
     place_after setting history ≤ place → moves_before place moves ≡ moves
 all_before crew setting history stage [] place played all le = refl
 all_before crew setting history stage (m ∷ ms) place played all le =
@@ -93,7 +96,8 @@ all_among searches more txn [] all = tt
 all_among searches more txn (m ∷ ms) all = (among_more searches more txn m all.0, all_among searches more txn ms all.1)
 
 -- where a search begins, behind all of the history, each other transaction need be listed as it is now
-pub search_more : (crew : Bool) (setting : Setting) (searches : List Search) (s : Search) (history : List Event) (opening : Stage) (seat : Seat) (receipts : List Receipt) → place_after setting history ≤ s.place →
+pub search_more : (crew : Bool) (setting : Setting) (searches : List Search) (s : Search) (history : List Event) (opening : Stage) (seat : Seat)
+    (receipts : List Receipt) → place_after setting history ≤ s.place →
     AllByRecursion (λ r. r.place < place_after setting history) receipts →
     (s.txn ≢ opening.turn.txn → (past : Past) → IsPastAt crew setting history seat past → IsListedRightly crew (record { turn = seat.turn; past = past }) s.wishes) →
     HasCome crew setting searches history opening seat receipts → HasCome crew setting (searches ++ s ∷ []) history opening seat receipts
@@ -104,8 +108,10 @@ search_more crew setting searches s history opening seat receipts le inside righ
   listed = listed_one crew searches s opening come.moves come.listed (λ other.
       let all : AllByRecursion (λ r. r.place < place_after setting history) (flat_map receipts_in come.moves) =
       subst (AllByRecursion (λ (r : Receipt). r.place < place_after setting history)) (sym come.made) inside in
-      subst (λ (ms : List Move). IsListedRightly crew (stage_after_all opening ms) s.wishes) (sym (all_before crew setting history opening come.moves s.place come.played (wider (flat_map receipts_in come.moves) all) le))
-      (subst (λ (t : Turn). IsListedRightly crew (record { turn = t; past = (stage_after_all opening come.moves).past }) s.wishes) (sym come.here) (rightly other (stage_after_all opening come.moves).past come.past)));
+      subst (λ (ms : List Move). IsListedRightly crew (stage_after_all opening ms) s.wishes)
+      (sym (all_before crew setting history opening come.moves s.place come.played (wider (flat_map receipts_in come.moves) all) le))
+      (subst (λ (t : Turn). IsListedRightly crew (record { turn = t; past = (stage_after_all opening come.moves).past }) s.wishes) (sym come.here)
+      (rightly other (stage_after_all opening come.moves).past come.past)));
   own = all_among searches (s ∷ []) opening.turn.txn come.moves come.own;
   here = come.here;
   past = come.past;

@@ -12,7 +12,6 @@ use Rattle.lt_runner.specs.TurnView.{Turn}
 use Rattle.lt_runner.specs.Turn.{Move, frees, turn_after, rest_of_release}
 use Rattle.lt_runner.specs.Serial.{Game, turn_of, with_turn, is_waiting, is_ready, line_move, does, gives_back, settles, plays_line, plays_next, plays_on, retried, swept, swept_if_released, settled}
 use Rattle.lt_runner.specs.Steps.{IsSteady, IsInOrder, IsTurnOf, IsAtLine, IsOwing, KeepsMoves}
-
 use Rattle.lt_runner.proofs.SteadyLaws.{numbers, turn_of_txn, turn_of_with, numbers_with, all_with, turn_has, steady_after, steady_freed, after_txn, ready_goes, waits_goes}
 
 -- Games stay in order.
@@ -25,7 +24,8 @@ in_order_with setting txns events released game new order steady = record {
   steady = all_with (IsSteady setting) (IsSteady setting) new game.turns order.steady steady (λ t differs s. s);
 }
 
-pub turn_after_does : (setting : Setting) (txns : List ℕ) (game : Game) (turn : Turn) (move : Move) → IsTurnOf setting txns game turn → turn_of setting turn.txn (does setting turn move game).turns ≡ turn_after turn move
+pub turn_after_does : (setting : Setting) (txns : List ℕ) (game : Game) (turn : Turn) (move : Move) → IsTurnOf setting txns game turn →
+    turn_of setting turn.txn (does setting turn move game).turns ≡ turn_after turn move
 turn_after_does setting txns game turn move of_game =
     let new = turn_after turn move in
     let same = after_txn turn move in
@@ -66,28 +66,33 @@ pub record Holds (setting : Setting) (txns : List ℕ) (P : Game → Type 0) (ga
   pub order : IsInOrder setting txns game
   pub is : P game
 
-pub holds_plays : (setting : Setting) (txns : List ℕ) (M : ℕ → Type 0) (P : Game → Type 0) (game : Game) (turn : Turn) (line : Line) (lines : List Line) → KeepsOf setting txns M P → IsAtLine setting txns game turn line lines → M turn.txn → P game →
+pub holds_plays : (setting : Setting) (txns : List ℕ) (M : ℕ → Type 0) (P : Game → Type 0) (game : Game) (turn : Turn) (line : Line) (lines : List Line) →
+    KeepsOf setting txns M P → IsAtLine setting txns game turn line lines → M turn.txn → P game →
     Holds setting txns P (does setting turn (line_move setting game turn line.deed) game)
 holds_plays setting txns M P game turn line lines keeps at m is = record {
-  order = in_order_with setting txns _ game.released game _ at.of_game.order (steady_after setting turn _ at.goes (turn_has (IsSteady setting) setting txns game turn at.of_game at.of_game.order.steady));
+  order = in_order_with setting txns _ game.released game _ at.of_game.order
+      (steady_after setting turn _ at.goes (turn_has (IsSteady setting) setting txns game turn at.of_game at.of_game.order.steady));
   is = keeps.plays game turn line lines at m is;
 }
 
-holds_gives : (setting : Setting) (txns : List ℕ) (M : ℕ → Type 0) (P : Game → Type 0) (game : Game) (turn : Turn) (r : Release) (rs : List Release) → KeepsOf setting txns M P → IsOwing setting txns game turn r rs → M turn.txn → P game →
+holds_gives : (setting : Setting) (txns : List ℕ) (M : ℕ → Type 0) (P : Game → Type 0) (game : Game) (turn : Turn) (r : Release) (rs : List Release) →
+    KeepsOf setting txns M P → IsOwing setting txns game turn r rs → M turn.txn → P game →
     Holds setting txns P (does setting turn (frees (receipt_after setting game.events 0 turn.txn (Free r.tree r.range r.first 0))) game)
 holds_gives setting txns M P game turn r rs keeps at m is = record {
   order = in_order_with setting txns _ game.released game _ at.of_game.order (steady_freed setting turn (turn_has (IsSteady setting) setting txns game turn at.of_game at.of_game.order.steady));
   is = keeps.gives game turn r rs at m is;
 }
 
-holds_marks : (setting : Setting) (txns : List ℕ) (M : ℕ → Type 0) (P : Game → Type 0) (game : Game) (released : Bool) → KeepsOf setting txns M P → Holds setting txns P game → Holds setting txns P (record game { released = released })
+holds_marks : (setting : Setting) (txns : List ℕ) (M : ℕ → Type 0) (P : Game → Type 0) (game : Game) (released : Bool) → KeepsOf setting txns M P →
+    Holds setting txns P game → Holds setting txns P (record game { released = released })
 holds_marks setting txns M P game released keeps holds = record {
   order = record { sorted = holds.order.sorted; numbers = holds.order.numbers; steady = holds.order.steady };
   is = keeps.marks game released holds.is;
 }
 
 -- a release
-pub holds_back : (setting : Setting) (txns : List ℕ) (M : ℕ → Type 0) (P : Game → Type 0) (txn : ℕ) (rs : List Release) (game : Game) → KeepsOf setting txns M P → M txn → is_in txn txns ≡ true → Holds setting txns P game →
+pub holds_back : (setting : Setting) (txns : List ℕ) (M : ℕ → Type 0) (P : Game → Type 0) (txn : ℕ) (rs : List Release) (game : Game) → KeepsOf setting txns M P → M txn →
+    is_in txn txns ≡ true → Holds setting txns P game →
     is_some (turn_of setting txn game.turns).outcome ≡ true → (turn_of setting txn game.turns).releases ≡ rs → Holds setting txns P (gives_back setting txn rs game)
 holds_back setting txns M P txn [] game keeps m number holds ended owed = holds
 holds_back setting txns M P txn (r ∷ rs) game keeps m number holds ended owed =
@@ -103,19 +108,24 @@ holds_back setting txns M P txn (r ∷ rs) game keeps m number holds ended owed 
     holds_back setting txns M P txn rs next keeps m number h (ap (λ (t : Turn). is_some t.outcome) there ∙ ended)
     (ap (λ (t : Turn). t.releases) there ∙ ap rest_of_release owed)
 
-pub holds_settles : (setting : Setting) (txns : List ℕ) (M : ℕ → Type 0) (P : Game → Type 0) (txn : ℕ) (game : Game) → KeepsOf setting txns M P → M txn → is_in txn txns ≡ true → Holds setting txns P game → Holds setting txns P (settles setting (turn_of setting txn game.turns) game)
+pub holds_settles : (setting : Setting) (txns : List ℕ) (M : ℕ → Type 0) (P : Game → Type 0) (txn : ℕ) (game : Game) → KeepsOf setting txns M P → M txn →
+    is_in txn txns ≡ true → Holds setting txns P game → Holds setting txns P (settles setting (turn_of setting txn game.turns) game)
 holds_settles setting txns M P txn game keeps m number holds = by_outcome (is_some turn.outcome) refl
   where
     turn : Turn
     turn = turn_of setting txn game.turns
+
     by_outcome : (b : Bool) → is_some turn.outcome ≡ b → Holds setting txns P (if b then record (gives_back setting turn.txn turn.releases game) { released = true } else game)
     by_outcome true ended =
         let of_game = the_turn setting txns txn game number holds.order in
         holds_marks setting txns M P (gives_back setting turn.txn turn.releases game) true keeps
-        (holds_back setting txns M P turn.txn turn.releases game keeps (subst M (sym (turn_of_txn setting txn game.turns (ap (is_in txn) holds.order.numbers ∙ number))) m) of_game.number holds (ap (λ (t : Turn). is_some t.outcome) of_game.there ∙ ended) (ap (λ (t : Turn). t.releases) of_game.there))
+        (holds_back setting txns M P turn.txn turn.releases game keeps
+        (subst M (sym (turn_of_txn setting txn game.turns (ap (is_in txn) holds.order.numbers ∙ number))) m) of_game.number holds
+        (ap (λ (t : Turn). is_some t.outcome) of_game.there ∙ ended) (ap (λ (t : Turn). t.releases) of_game.there))
     by_outcome false goes = holds
 
-pub holds_line : (setting : Setting) (txns : List ℕ) (M : ℕ → Type 0) (P : Game → Type 0) (txn : ℕ) (lines : List Line) (game : Game) → KeepsOf setting txns M P → M txn → is_in txn txns ≡ true → Holds setting txns P game →
+pub holds_line : (setting : Setting) (txns : List ℕ) (M : ℕ → Type 0) (P : Game → Type 0) (txn : ℕ) (lines : List Line) (game : Game) → KeepsOf setting txns M P → M txn →
+    is_in txn txns ≡ true → Holds setting txns P game →
     is_some (turn_of setting txn game.turns).outcome ≡ false → (turn_of setting txn game.turns).lines ≡ lines → Holds setting txns P (plays_line setting txn lines game)
 holds_line setting txns M P txn [] game keeps m number holds goes same = holds
 holds_line setting txns M P txn (line ∷ lines) game keeps m number holds goes same =
@@ -124,25 +134,30 @@ holds_line setting txns M P txn (line ∷ lines) game keeps m number holds goes 
     (holds_plays setting txns M P game turn line lines keeps (record { of_game = the_turn setting txns txn game number holds.order; goes = goes; next = same })
     (subst M (sym (turn_of_txn setting txn game.turns (ap (is_in txn) holds.order.numbers ∙ number))) m) holds.is)
 
-pub holds_next : (setting : Setting) (txns : List ℕ) (M : ℕ → Type 0) (P : Game → Type 0) (txn : ℕ) (game : Game) → KeepsOf setting txns M P → M txn → is_in txn txns ≡ true → Holds setting txns P game →
+pub holds_next : (setting : Setting) (txns : List ℕ) (M : ℕ → Type 0) (P : Game → Type 0) (txn : ℕ) (game : Game) → KeepsOf setting txns M P → M txn →
+    is_in txn txns ≡ true → Holds setting txns P game →
     is_some (turn_of setting txn game.turns).outcome ≡ false → Holds setting txns P (plays_next setting txn game)
 holds_next setting txns M P txn game keeps m number holds goes = holds_line setting txns M P txn (turn_of setting txn game.turns).lines game keeps m number holds goes refl
 
-pub holds_on : (setting : Setting) (txns : List ℕ) (M : ℕ → Type 0) (P : Game → Type 0) (txn : ℕ) (lines : List Line) (game : Game) → KeepsOf setting txns M P → M txn → is_in txn txns ≡ true → Holds setting txns P game → Holds setting txns P (plays_on setting txn lines game)
+pub holds_on : (setting : Setting) (txns : List ℕ) (M : ℕ → Type 0) (P : Game → Type 0) (txn : ℕ) (lines : List Line) (game : Game) → KeepsOf setting txns M P → M txn →
+    is_in txn txns ≡ true → Holds setting txns P game → Holds setting txns P (plays_on setting txn lines game)
 holds_on setting txns M P txn [] game keeps m number holds = holds
 holds_on setting txns M P txn (line ∷ lines) game keeps m number holds =
     by_test (is_ready (turn_of setting txn game.turns)) refl (λ h. holds_on setting txns M P txn lines (plays_next setting txn game) keeps m number h)
   where
-    by_test : (b : Bool) → is_ready (turn_of setting txn game.turns) ≡ b → (Holds setting txns P (plays_next setting txn game) → Holds setting txns P (plays_on setting txn lines (plays_next setting txn game))) →
+    by_test : (b : Bool) → is_ready (turn_of setting txn game.turns) ≡ b →
+        (Holds setting txns P (plays_next setting txn game) → Holds setting txns P (plays_on setting txn lines (plays_next setting txn game))) →
         Holds setting txns P (if b then plays_on setting txn lines (plays_next setting txn game) else game)
     by_test true ready on = on (holds_next setting txns M P txn game keeps m number holds (ready_goes (turn_of setting txn game.turns) ready))
     by_test false waiting on = holds
 
-pub holds_retried : (setting : Setting) (txns : List ℕ) (M : ℕ → Type 0) (P : Game → Type 0) (game : Game) (txn : ℕ) → KeepsOf setting txns M P → M txn → is_in txn txns ≡ true → Holds setting txns P game → Holds setting txns P (retried setting game txn)
+pub holds_retried : (setting : Setting) (txns : List ℕ) (M : ℕ → Type 0) (P : Game → Type 0) (game : Game) (txn : ℕ) → KeepsOf setting txns M P → M txn →
+    is_in txn txns ≡ true → Holds setting txns P game → Holds setting txns P (retried setting game txn)
 holds_retried setting txns M P game txn keeps m number holds = by_test (is_waiting turn) refl
   where
     turn : Turn
     turn = turn_of setting txn game.turns
+
     by_test : (b : Bool) → is_waiting turn ≡ b → Holds setting txns P (if b then (let next = plays_next setting txn game in plays_on setting txn (turn_of setting txn next.turns).lines next) else game)
     by_test true held =
         let steady = turn_has (IsSteady setting) setting txns game turn (the_turn setting txns txn game number holds.order) holds.order.steady in
@@ -169,14 +184,18 @@ are_of (n ∷ ns) = (by_test (n == n) (eq-eqb n n refl), are_more n ns ns (are_o
     by_test true e = refl
     by_test false e = cc
 
-pub holds_round : (setting : Setting) (txns : List ℕ) (P : Game → Type 0) (left : List ℕ) (game : Game) → KeepsMoves setting txns P → AreOf txns left → Holds setting txns P game → Holds setting txns P (fold (retried setting) game left)
+pub holds_round : (setting : Setting) (txns : List ℕ) (P : Game → Type 0) (left : List ℕ) (game : Game) → KeepsMoves setting txns P → AreOf txns left →
+    Holds setting txns P game → Holds setting txns P (fold (retried setting) game left)
 holds_round setting txns P [] game keeps all holds = holds
-holds_round setting txns P (txn ∷ left) game keeps all holds = holds_round setting txns P left (retried setting game txn) keeps all.1 (holds_retried setting txns AnyOne P game txn (keeps_of setting txns P keeps) tt all.0 holds)
+holds_round setting txns P (txn ∷ left) game keeps all holds =
+    holds_round setting txns P left (retried setting game txn) keeps all.1 (holds_retried setting txns AnyOne P game txn (keeps_of setting txns P keeps) tt all.0 holds)
 
 pub holds_swept : (setting : Setting) (txns : List ℕ) (P : Game → Type 0) (game : Game) → KeepsMoves setting txns P → Holds setting txns P game → Holds setting txns P (swept setting txns game)
-holds_swept setting txns P game keeps holds = holds_round setting txns P txns (record game { released = false }) keeps (are_of txns) (holds_marks setting txns AnyOne P game false (keeps_of setting txns P keeps) holds)
+holds_swept setting txns P game keeps holds =
+    holds_round setting txns P txns (record game { released = false }) keeps (are_of txns) (holds_marks setting txns AnyOne P game false (keeps_of setting txns P keeps) holds)
 
-pub holds_swept_if : (setting : Setting) (txns : List ℕ) (P : Game → Type 0) (game : Game) → KeepsMoves setting txns P → Holds setting txns P game → Holds setting txns P (swept_if_released setting txns game)
+pub holds_swept_if : (setting : Setting) (txns : List ℕ) (P : Game → Type 0) (game : Game) → KeepsMoves setting txns P → Holds setting txns P game →
+    Holds setting txns P (swept_if_released setting txns game)
 unfolding swept_if_released
 holds_swept_if setting txns P game keeps holds = by_test game.released
   where
@@ -184,10 +203,10 @@ holds_swept_if setting txns P game keeps holds = by_test game.released
     by_test true = holds_swept setting txns P game keeps holds
     by_test false = holds
 
-holds_rounds : (setting : Setting) (txns : List ℕ) (P : Game → Type 0) (left : List ℕ) (game : Game) → KeepsMoves setting txns P → Holds setting txns P game → Holds setting txns P (fold (λ game (txn : ℕ). swept_if_released setting txns game) game left)
+holds_rounds : (setting : Setting) (txns : List ℕ) (P : Game → Type 0) (left : List ℕ) (game : Game) → KeepsMoves setting txns P → Holds setting txns P game →
+    Holds setting txns P (fold (λ game (txn : ℕ). swept_if_released setting txns game) game left)
 holds_rounds setting txns P [] game keeps holds = holds
 holds_rounds setting txns P (txn ∷ left) game keeps holds = holds_rounds setting txns P left (swept_if_released setting txns game) keeps (holds_swept_if setting txns P game keeps holds)
 
 pub holds_settled : (setting : Setting) (txns : List ℕ) (P : Game → Type 0) (game : Game) → KeepsMoves setting txns P → Holds setting txns P game → Holds setting txns P (settled setting txns game)
 holds_settled setting txns P game keeps holds = holds_rounds setting txns P txns game keeps holds
-

@@ -36,7 +36,8 @@ walked_lines : (Q : Line → Type 0) (walk : Option (List Edge)) (turn : Turn) �
 walked_lines Q None turn all = all
 walked_lines Q (Some walk) turn all = tt
 
-locked_lines : (Q : Line → Type 0) (tree : ℕ) (range : Interval) (reply : Reply) (walk : Option (List Edge)) (turn : Turn) → AllByRecursion Q turn.lines → AllByRecursion Q (locked_by tree range reply walk turn).lines
+locked_lines : (Q : Line → Type 0) (tree : ℕ) (range : Interval) (reply : Reply) (walk : Option (List Edge)) (turn : Turn) → AllByRecursion Q turn.lines →
+    AllByRecursion Q (locked_by tree range reply walk turn).lines
 locked_lines Q tree range Granted walk turn all = all_rest Q turn.lines all
 locked_lines Q tree range Buffered walk turn all = all_rest Q turn.lines all
 locked_lines Q tree range (HeldBy owners) walk turn all = walked_lines Q walk turn all
@@ -80,7 +81,8 @@ pub record AreNoLocks (left : List Line) (game : Game) : Type 0 where
   pub to_come : AllByRecursion IsNoLock left
   pub own : AllByRecursion (λ turn. AllByRecursion IsNoLock turn.lines) game.turns
 
-with_lines : (game : Game) (new : Turn) → AllByRecursion IsNoLock new.lines → AllByRecursion (λ turn. AllByRecursion IsNoLock turn.lines) game.turns → AllByRecursion (λ turn. AllByRecursion IsNoLock turn.lines) (with_turn new game.turns)
+with_lines : (game : Game) (new : Turn) → AllByRecursion IsNoLock new.lines → AllByRecursion (λ turn. AllByRecursion IsNoLock turn.lines) game.turns →
+    AllByRecursion (λ turn. AllByRecursion IsNoLock turn.lines) (with_turn new game.turns)
 with_lines game new one all = all_with (λ turn. AllByRecursion IsNoLock turn.lines) (λ turn. AllByRecursion IsNoLock turn.lines) new game.turns all one (λ t differs kept. kept)
 
 pub no_locks_keeps : (setting : Setting) (txns : List ℕ) → KeepsSteps setting txns AreNoLocks
@@ -99,12 +101,14 @@ no_locks_keeps setting txns = record {
   };
   adds = λ game turn line left at is. record {
     to_come = is.to_come.1;
-    own = with_lines game (record turn { lines = turn.lines ++ line ∷ [] }) (all_push IsNoLock turn.lines line (turn_has (λ t. AllByRecursion IsNoLock t.lines) setting txns game turn at.of_game is.own) is.to_come.0) is.own;
+    own = with_lines game (record turn { lines = turn.lines ++ line ∷ [] })
+        (all_push IsNoLock turn.lines line (turn_has (λ t. AllByRecursion IsNoLock t.lines) setting txns game turn at.of_game is.own) is.to_come.0) is.own;
   };
   passes = λ game turn line left at is. record { to_come = is.to_come.1; own = is.own };
   ends = λ game turn at is. record {
     to_come = tt;
-    own = with_lines game (record turn { lines = turn.lines ++ end_of turn.txn ∷ [] }) (all_push IsNoLock turn.lines (end_of turn.txn) (turn_has (λ t. AllByRecursion IsNoLock t.lines) setting txns game turn at.of_game is.own) refl) is.own;
+    own = with_lines game (record turn { lines = turn.lines ++ end_of turn.txn ∷ [] })
+        (all_push IsNoLock turn.lines (end_of turn.txn) (turn_has (λ t. AllByRecursion IsNoLock t.lines) setting txns game turn at.of_game is.own) refl) is.own;
   };
 }
 
@@ -129,14 +133,17 @@ over_by turn free still = by_outcome turn.outcome turn.waits free still
     by_outcome None false f e = absurd (let k : true ≡ false = e in cc)
     by_outcome (Some outcome) w f e = refl
 
-all_over : (setting : Setting) (turns : List Turn) → AllByRecursion (IsSteady setting) turns → AllByRecursion (λ turn. AllByRecursion IsNoLock turn.lines) turns → find is_ready turns ≡ None → AllByRecursion (λ turn. is_some turn.outcome ≡ true) turns
+all_over : (setting : Setting) (turns : List Turn) → AllByRecursion (IsSteady setting) turns → AllByRecursion (λ turn. AllByRecursion IsNoLock turn.lines) turns →
+    find is_ready turns ≡ None → AllByRecursion (λ turn. is_some turn.outcome ≡ true) turns
 all_over setting [] steady all none = tt
 all_over setting (t ∷ ts) steady all none = by_test (is_ready t) refl none (all_over setting ts steady.1 all.1)
   where
-    by_test : (b : Bool) → is_ready t ≡ b → (if b then Some t else find is_ready ts) ≡ None → (find is_ready ts ≡ None → AllByRecursion (λ turn. is_some turn.outcome ≡ true) ts) → AllByRecursion (λ turn. is_some turn.outcome ≡ true) (t ∷ ts)
+    by_test : (b : Bool) → is_ready t ≡ b → (if b then Some t else find is_ready ts) ≡ None →
+        (find is_ready ts ≡ None → AllByRecursion (λ turn. is_some turn.outcome ≡ true) ts) → AllByRecursion (λ turn. is_some turn.outcome ≡ true) (t ∷ ts)
     by_test true e h later = absurd cc
     by_test false e h later = (over_by t (λ held. not_at_lock t.lines all.0 (steady.0.held held)) e, later h)
 
 pub no_locks_free : (setting : Setting) (txns : List ℕ) → IsNeverStuck setting txns (AreNoLocks [])
 no_locks_free setting txns game between none txn there =
-    at_turn (λ turn. is_some turn.outcome ≡ true) setting txn game.turns (ap (is_in txn) between.holds.order.numbers ∙ there) (all_over setting game.turns between.holds.order.steady between.holds.is.own none)
+    at_turn (λ turn. is_some turn.outcome ≡ true) setting txn game.turns (ap (is_in txn) between.holds.order.numbers ∙ there)
+    (all_over setting game.turns between.holds.order.steady between.holds.is.own none)

@@ -26,12 +26,14 @@ record PlaysOf (crew : Bool) (setting : Setting) (searches : List Search) (lines
   listed : AllByRecursion (IsListed crew searches setting lines) plays
   outcomes : map ended_as plays ≡ filter_map ended_in (map (λ (s : Seat). s.turn) seats)
 
-plays_of : (crew : Bool) (setting : Setting) (searches : List Search) (lines : List Line) (events : List Event) (seats : List Seat) → AllByRecursion (Stands crew setting searches lines events) seats → AllByRecursion IsOver seats →
+plays_of : (crew : Bool) (setting : Setting) (searches : List Search) (lines : List Line) (events : List Event) (seats : List Seat) →
+    AllByRecursion (Stands crew setting searches lines events) seats → AllByRecursion IsOver seats →
     PlaysOf crew setting searches lines events seats
 plays_of crew setting searches lines events [] stand over = record { plays = []; txns = refl; played = tt; listed = tt; outcomes = refl }
 plays_of crew setting searches lines events (s ∷ ss) stand over = by_outcome s.turn.outcome refl over.0.0 (plays_of crew setting searches lines events ss stand.1 over.1)
   where
-    by_outcome : (outcome : Option Outcome) → s.turn.outcome ≡ outcome → is_some s.turn.outcome ≡ true → PlaysOf crew setting searches lines events ss → PlaysOf crew setting searches lines events (s ∷ ss)
+    by_outcome : (outcome : Option Outcome) → s.turn.outcome ≡ outcome → is_some s.turn.outcome ≡ true → PlaysOf crew setting searches lines events ss →
+        PlaysOf crew setting searches lines events (s ∷ ss)
     by_outcome None is done rest = absurd (none_over (sym (ap is_some is) ∙ done))
       where
         none_over : false ≡ true → ⊥
@@ -65,7 +67,8 @@ at_search crew (x ∷ xs) opening moves s listed (zero, inside, is) other =
     subst (λ (y : Search). IsListedRightly crew (stage_after_all opening (moves_before y.place moves)) y.wishes) same (listed.0 (subst (λ (y : Search). y.txn ≢ opening.turn.txn) (sym same) other))
 at_search crew (x ∷ xs) opening moves s listed (suc k, inside, is) other = at_search crew xs opening moves s listed.1 (k, omega (arith, inside), is) other
 
-others_listed : (crew : Bool) (setting : Setting) (searches : List Search) (lines : List Line) (plays : List Play) (s : Search) → AllByRecursion (IsListed crew searches setting lines) plays → Contains searches s →
+others_listed : (crew : Bool) (setting : Setting) (searches : List Search) (lines : List Line) (plays : List Play) (s : Search) →
+    AllByRecursion (IsListed crew searches setting lines) plays → Contains searches s →
     AllByRecursion (λ other. other.txn ≢ s.txn → IsListedRightly crew (stage_at setting lines other s.place) s.wishes) plays
 others_listed crew setting searches lines [] s listed there = tt
 others_listed crew setting searches lines (play ∷ plays) s listed there = (
@@ -73,7 +76,8 @@ others_listed crew setting searches lines (play ∷ plays) s listed there = (
   others_listed crew setting searches lines plays s listed.1 there,
 )
 
-searched : (crew : Bool) (setting : Setting) (searches : List Search) (lines : List Line) (plays : List Play) (txn : ℕ) (moves : List Move) → AllByRecursion (IsListed crew searches setting lines) plays → AllByRecursion (IsAmong searches txn) moves →
+searched : (crew : Bool) (setting : Setting) (searches : List Search) (lines : List Line) (plays : List Play) (txn : ℕ) (moves : List Move) →
+    AllByRecursion (IsListed crew searches setting lines) plays → AllByRecursion (IsAmong searches txn) moves →
     AllByRecursion (IsSearchedRightly crew setting lines plays txn) moves
 searched crew setting searches lines plays txn [] listed own = tt
 searched crew setting searches lines plays txn (move ∷ moves) listed own = (at_move move own.0, searched crew setting searches lines plays txn moves listed own.1)
@@ -88,10 +92,12 @@ searched crew setting searches lines plays txn (move ∷ moves) listed own = (at
     at_move ends among = tt
     at_move (frees free) among = tt
 
-all_searched : (crew : Bool) (setting : Setting) (searches : List Search) (lines : List Line) (all plays : List Play) → AllByRecursion (IsListed crew searches setting lines) all → AllByRecursion (IsListed crew searches setting lines) plays →
+all_searched : (crew : Bool) (setting : Setting) (searches : List Search) (lines : List Line) (all plays : List Play) →
+    AllByRecursion (IsListed crew searches setting lines) all → AllByRecursion (IsListed crew searches setting lines) plays →
     AllByRecursion (λ play. AllByRecursion (IsSearchedRightly crew setting lines all play.txn) play.moves) plays
 all_searched crew setting searches lines all [] listed own = tt
-all_searched crew setting searches lines all (play ∷ plays) listed own = (searched crew setting searches lines all play.txn play.moves listed own.0.own, all_searched crew setting searches lines all plays listed own.1)
+all_searched crew setting searches lines all (play ∷ plays) listed own =
+    (searched crew setting searches lines all play.txn play.moves listed own.0.own, all_searched crew setting searches lines all plays listed own.1)
 
 -- Plays of all, and what is told of how each ended.
 pub record IsPlayedOut (crew : Bool) (setting : Setting) (lines : List Line) (history : List Event) (seats : List Seat) : Type 0 where
@@ -100,7 +106,8 @@ pub record IsPlayedOut (crew : Bool) (setting : Setting) (lines : List Line) (hi
   pub outcomes : map ended_as plays ≡ filter_map ended_in (map (λ (s : Seat). s.turn) seats)
 
 -- one legal history in which each transaction's moves stand once and in its order
-pub come_is_run : (crew : Bool) (setting : Setting) (searches : List Search) (lines : List Line) (history : List Event) (seats : List Seat) → AllStand crew setting searches lines history seats → AllByRecursion IsOver seats →
+pub come_is_run : (crew : Bool) (setting : Setting) (searches : List Search) (lines : List Line) (history : List Event) (seats : List Seat) →
+    AllStand crew setting searches lines history seats → AllByRecursion IsOver seats →
     IsPlayedOut crew setting lines history seats
 come_is_run crew setting searches lines history seats all over =
     let made = plays_of crew setting searches lines history seats all.stand over in

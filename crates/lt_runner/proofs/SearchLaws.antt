@@ -1,5 +1,6 @@
 -- A search that was right stays right while the others go on.
-use Rattle.std.proofs.Common.{◌≡◌, ◌≢◌, ◌⊎◌, ℕ, ◌+◌, ◌<◌, ◌≤◌, List, [], ◌∷◌, ◌++◌, Bool, true, false, ◌&&◌, nat_lt, nat_le, if◌then◌else◌, Option, Some, None, IfSome, IsTrue, refl, sym, ap, subst, ◌∙◌, inl, inr, arith}
+use Rattle.std.proofs.Common.{◌≡◌, ◌≢◌, ◌⊎◌, ℕ, ◌+◌, ◌<◌, ◌≤◌, List, [], ◌∷◌, ◌++◌, Bool, true, false, ◌&&◌, nat_lt, nat_le, if◌then◌else◌, Option, Some, None, IfSome, IsTrue, refl}
+use Rattle.std.proofs.Common.{sym, ap, subst, ◌∙◌, inl, inr, arith}
 use Rattle.std.specs.List.{AllByRecursion, list_all}
 use Rattle.std.proofs.lemmas.Bool.{false≢true}
 use Rattle.std.proofs.lemmas.Bool.Decides.{nat_tests}
@@ -119,12 +120,14 @@ before_more : (place : ℕ) (xs : List Move) (x : Move) → begun place x ≡ []
 before_more place [] x none = by_test (is_before place x) refl
   where
     by_test : (b : Bool) → is_before place x ≡ b →
-        ((if b then x ∷ moves_before place [] else begun place x) ≡ moves_before place []) ⊎ ((moves_before place [] ≡ []) × ((if b then x ∷ moves_before place [] else begun place x) ≡ x ∷ []) × (is_before place x ≡ true))
+        ((if b then x ∷ moves_before place [] else begun place x) ≡ moves_before place []) ⊎
+        ((moves_before place [] ≡ []) × ((if b then x ∷ moves_before place [] else begun place x) ≡ x ∷ []) × (is_before place x ≡ true))
     by_test true e = inr (refl, refl, e)
     by_test false e = inl none
 before_more place (y ∷ ys) x none = by_test (is_before place y) (before_more place ys x none)
   where
-    by_test : (b : Bool) → (moves_before place (ys ++ x ∷ []) ≡ moves_before place ys) ⊎ ((moves_before place ys ≡ ys) × (moves_before place (ys ++ x ∷ []) ≡ ys ++ x ∷ []) × (is_before place x ≡ true)) →
+    by_test : (b : Bool) →
+        (moves_before place (ys ++ x ∷ []) ≡ moves_before place ys) ⊎ ((moves_before place ys ≡ ys) × (moves_before place (ys ++ x ∷ []) ≡ ys ++ x ∷ []) × (is_before place x ≡ true)) →
         ((if b then y ∷ moves_before place (ys ++ x ∷ []) else begun place y) ≡ (if b then y ∷ moves_before place ys else begun place y))
         ⊎ (((if b then y ∷ moves_before place ys else begun place y) ≡ y ∷ ys) × ((if b then y ∷ moves_before place (ys ++ x ∷ []) else begun place y) ≡ y ∷ ys ++ x ∷ []) × (is_before place x ≡ true))
     by_test true (inl same) = inl (ap (λ (l : List Move). y ∷ l) same)
@@ -142,7 +145,8 @@ and_first false b e = absurd (false≢true e)
 goes_on : (crew : Bool) (setting : Setting) (history : List Event) (stage : Stage) (move : Move) (place from : ℕ) → place < from → IsLate from move → is_before place move ≡ true → IsAtLine stage →
     IsMove crew setting history stage stage.turn.lines move → stage.turn.waits ≡ false
 goes_on crew setting history stage (leaves []) place from less late before at may = absurd late
-goes_on crew setting history stage (leaves (r ∷ rs)) place from less late before at may = absurd (not_below r.place place from less late (and_first (nat_lt r.place place) (list_all (λ (s : Receipt). nat_lt s.place place) rs) before))
+goes_on crew setting history stage (leaves (r ∷ rs)) place from less late before at may =
+    absurd (not_below r.place place from less late (and_first (nat_lt r.place place) (list_all (λ (s : Receipt). nat_lt s.place place) rs) before))
 goes_on crew setting history stage (asks joins ask) place from less late before at may = absurd (not_below ask.place place from less late before)
 goes_on crew setting history stage (waits joins ask wishes found) place from less late before at may =
     absurd (not_below ask.place place from less late (and_first (nat_lt ask.place place) (list_all (λ (s : Receipt). nat_lt s.place place) found) before))
@@ -225,7 +229,8 @@ free_listed crew stage wishes none held = record {
 }
 
 -- A transaction that was listed rightly at a place is still, when it goes on by a move behind it.
-pub listed_more : (crew : Bool) (setting : Setting) (history : List Event) (opening : Stage) (moves : List Move) (move : Move) (place from : ℕ) (wishes : List Wish) → place < from → IsLate from move → IsAtLine opening →
+pub listed_more : (crew : Bool) (setting : Setting) (history : List Event) (opening : Stage) (moves : List Move) (move : Move) (place from : ℕ) (wishes : List Wish) →
+    place < from → IsLate from move → IsAtLine opening →
     (let stage = stage_after_all opening moves in
     IsMove crew setting history stage stage.turn.lines move → (turn_after stage.turn move).txn ≡ stage.turn.txn →
     IsListedRightly crew (stage_after_all opening (moves_before place moves)) wishes →
@@ -252,8 +257,10 @@ listed_more crew setting history opening moves move place from wishes less late 
 
 -- In all searches of others.
 
-pub listed_still : (crew : Bool) (setting : Setting) (history : List Event) (opening : Stage) (moves : List Move) (move : Move) (from : ℕ) (searches : List Search) → AllByRecursion (λ s. s.txn ≢ opening.turn.txn → s.place < from) searches →
-    IsLate from move → IsAtLine opening → IsMove crew setting history (stage_after_all opening moves) (stage_after_all opening moves).turn.lines move → AreListed crew searches opening moves → AreListed crew searches opening (moves ++ move ∷ [])
+pub listed_still : (crew : Bool) (setting : Setting) (history : List Event) (opening : Stage) (moves : List Move) (move : Move) (from : ℕ) (searches : List Search) →
+    AllByRecursion (λ s. s.txn ≢ opening.turn.txn → s.place < from) searches →
+    IsLate from move → IsAtLine opening → IsMove crew setting history (stage_after_all opening moves) (stage_after_all opening moves).turn.lines move →
+    AreListed crew searches opening moves → AreListed crew searches opening (moves ++ move ∷ [])
 listed_still crew setting history opening moves move from [] before late start may listed = tt
 listed_still crew setting history opening moves move from (s ∷ ss) before late start may listed = (
   λ other. listed_more crew setting history opening moves move s.place from s.wishes (before.0 other) late start may (after_txn (stage_after_all opening moves).turn move) (listed.0 other),

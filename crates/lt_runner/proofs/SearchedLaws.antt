@@ -1,5 +1,6 @@
 -- The search of one pass that is alone is a search: no wish is asked for twice, so there are no more questions than wishes.
-use Rattle.std.proofs.Common.{◌≡◌, ℕ, suc, ◌+◌, ◌<◌, ◌≤◌, List, [], ◌∷◌, ◌++◌, map, Bool, true, false, ◌==◌, ◌&&◌, ◌||◌, not, cond, if◌then◌else◌, length, refl, sym, ap, subst, ◌∙◌, arith, append_assoc, eq-eqb}
+use Rattle.std.proofs.Common.{◌≡◌, ℕ, suc, ◌+◌, ◌<◌, ◌≤◌, List, [], ◌∷◌, ◌++◌, map, Bool, true, false, ◌==◌, ◌&&◌, ◌||◌, not, cond, if◌then◌else◌, length, refl, sym, ap, subst, ◌∙◌}
+use Rattle.std.proofs.Common.{arith, append_assoc, eq-eqb}
 use Rattle.std.specs.List.{AllByRecursion, filter}
 use Rattle.std.proofs.lemmas.List.{length-append}
 use Rattle.lt_ranges.specs.Interval.{IsInterval}
@@ -66,6 +67,7 @@ there_filtered test (w ∷ ws) = by_test (test w) refl (there_filtered test ws)
     by_same : (b : Bool) → b ≡ true → (b || is_in w.txn (txns_in (filter test ws))) ≡ true
     by_same true e = refl
     by_same false e = cc
+
     by_test : (b : Bool) → test w ≡ b → AreThere test (filter test ws) ws → AreThere test (cond b (w ∷ filter test ws) (filter test ws)) (w ∷ ws)
     by_test true e all = ((λ passes. by_same (w.txn == w.txn) (eq-eqb w.txn w.txn refl)), there_later test w (filter test ws) ws all)
     by_test false e all = ((λ passes. let k : false ≡ true = sym e ∙ passes in cc), all)
@@ -84,7 +86,8 @@ fewer test listed more (w ∷ ws) new there =
   where
     by_tests : (a b c : Bool) → test w ≡ a → is_in w.txn (txns_in listed) ≡ b → is_in w.txn (txns_in (listed ++ more)) ≡ c →
         missing (listed ++ more) ws + length (filter test ws) ≤ missing listed ws →
-        (if not c then 1 + missing (listed ++ more) ws else missing (listed ++ more) ws) + length (cond a (w ∷ filter test ws) (filter test ws)) ≤ (if not b then 1 + missing listed ws else missing listed ws)
+        (if not c then 1 + missing (listed ++ more) ws else missing (listed ++ more) ws) + length (cond a (w ∷ filter test ws) (filter test ws)) ≤
+        (if not b then 1 + missing listed ws else missing listed ws)
     by_tests true true c e h k rest = absurd (let x : false ≡ true = sym (ap not h) ∙ new w e in cc)
     by_tests true false true e h k rest = omega (arith, rest)
     by_tests true false false e h k rest = absurd (let x : false ≡ true = sym k ∙ there.0 e in cc)
@@ -164,7 +167,8 @@ fit_both : (setting : Setting) (xs ys : List Wish) → AllByRecursion (IsFitWish
 fit_both setting [] ys all rest = rest
 fit_both setting (x ∷ xs) ys all rest = (all.0, fit_both setting xs ys all.1 rest)
 
-calls_go : (setting : Setting) (txn : ℕ) (wishes steps : List Wish) (events : List Event) (done listed : List Wish) → AllByRecursion (IsFitWish setting) wishes → AllByRecursion (IsFitWish setting) listed →
+calls_go : (setting : Setting) (txn : ℕ) (wishes steps : List Wish) (events : List Event) (done listed : List Wish) → AllByRecursion (IsFitWish setting) wishes →
+    AllByRecursion (IsFitWish setting) listed →
     AreCalls setting txn events (searched setting txn wishes steps events done listed)
 calls_go setting txn wishes [] events done listed fit all = tt
 calls_go setting txn wishes (step ∷ steps) events done [] fit all = tt
@@ -173,7 +177,9 @@ calls_go setting txn wishes (step ∷ steps) events done (w ∷ ws) fit all =
     let named = named_in r.event.deed in (
       record { deed = question_for w; is = refl; tree = all.0.tree; question = all.0.range },
       calls_go setting txn wishes steps (events ++ r.event ∷ []) (done ++ w ∷ []) (ws ++ new_wishes txn (done ++ w ∷ ws) (wishes_of named wishes)) fit
-          (fit_both setting ws _ all.1 (fit_filter setting (λ x. not (x.txn == txn) && not (is_in x.txn (txns_in (done ++ w ∷ ws)))) (wishes_of named wishes) (fit_filter setting (λ x. is_in x.txn named) wishes fit))),
+          (fit_both setting ws _ all.1
+          (fit_filter setting (λ x. not (x.txn == txn) && not (is_in x.txn (txns_in (done ++ w ∷ ws)))) (wishes_of named wishes)
+          (fit_filter setting (λ x. is_in x.txn named) wishes fit))),
     )
 
 pub searched_calls : (setting : Setting) (txn : ℕ) (wishes : List Wish) (events : List Event) (named : List ℕ) → AllByRecursion (IsFitWish setting) wishes →

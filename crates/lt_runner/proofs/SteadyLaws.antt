@@ -1,5 +1,6 @@
 -- The plain scheduler's turns: each by its number, and each steady between two steps.
-use Rattle.std.proofs.Common.{◌≡◌, ◌≢◌, ℕ, zero, suc, ◌+◌, ◌<◌, ◌≤◌, List, [], ◌∷◌, ◌++◌, map, Bool, true, false, ◌==◌, ◌&&◌, ◌||◌, not, if◌then◌else◌, Option, Some, None, is_some, is_none, length, get_or, slice_set, refl, sym, ap, subst, ◌∙◌, arith, eq-eqb}
+use Rattle.std.proofs.Common.{◌≡◌, ◌≢◌, ℕ, zero, suc, ◌+◌, ◌<◌, ◌≤◌, List, [], ◌∷◌, ◌++◌, map, Bool, true, false, ◌==◌, ◌&&◌, ◌||◌, not, if◌then◌else◌, Option, Some, None, is_some}
+use Rattle.std.proofs.Common.{is_none, length, get_or, slice_set, refl, sym, ap, subst, ◌∙◌, arith, eq-eqb}
 use Rattle.std.specs.List.{AllByRecursion}
 use Rattle.std.proofs.lemmas.Bool.Decides.{nat_tests}
 use Rattle.std.proofs.lemmas.List.{length-set}
@@ -17,7 +18,8 @@ use Rattle.lt_history.specs.declared.outcome.Outcome.{Outcome}
 use Rattle.lt_history.specs.declared.outcome.Outcome.TheVariants.{Done, Aborted, Deadlock, OutOfLocks}
 use Rattle.lt_runner.specs.declared.release.Release.{Release}
 use Rattle.lt_runner.specs.TurnView.{Turn, Recorded}
-use Rattle.lt_runner.specs.Turn.{Move, leaves, asks, waits, stops, escalates, grows, ends, frees, turn_after, releases_by, releases_in, releases_from, nothing_recorded, past, granted_to, ending, answered_by, walked, locked_by, asked_at, ended_at, reply_in, rest_of, rest_of_release}
+use Rattle.lt_runner.specs.Turn.{Move, leaves, asks, waits, stops, escalates, grows, ends, frees, turn_after, releases_by, releases_in, releases_from, nothing_recorded, past}
+use Rattle.lt_runner.specs.Turn.{granted_to, ending, answered_by, walked, locked_by, asked_at, ended_at, reply_in, rest_of, rest_of_release}
 use Rattle.lt_runner.specs.Serial.{Game, turn_of, with_turn, is_ready}
 use Rattle.lt_runner.specs.Played.{IsAtLock}
 use Rattle.lt_runner.specs.Steps.{IsFitDeed, IsFitLine, IsFitRelease, AreRanges, IsSteady, IsTurnOf}
@@ -32,7 +34,8 @@ pub turn_of_txn : (setting : Setting) (txn : ℕ) (turns : List Turn) → is_in 
 turn_of_txn setting txn [] there = cc
 turn_of_txn setting txn (t ∷ ts) there = by_test (t.txn == txn) refl there (turn_of_txn setting txn ts)
   where
-    by_test : (b : Bool) → (t.txn == txn) ≡ b → (b || is_in txn (numbers ts)) ≡ true → (is_in txn (numbers ts) ≡ true → (turn_of setting txn ts).txn ≡ txn) → (if b then t else turn_of setting txn ts).txn ≡ txn
+    by_test : (b : Bool) → (t.txn == txn) ≡ b → (b || is_in txn (numbers ts)) ≡ true → (is_in txn (numbers ts) ≡ true → (turn_of setting txn ts).txn ≡ txn) →
+        (if b then t else turn_of setting txn ts).txn ≡ txn
     by_test true e h later = grind (arith, nat_tests)
     by_test false e h later = later h
 
@@ -65,6 +68,7 @@ turn_of_other setting other new (t ∷ ts) differs = by_test (t.txn == new.txn) 
     differ : (a b : ℕ) (c : Bool) → (a ≡ b → ⊥) → (a == b) ≡ c → (a == b) ≡ false
     differ a b true d e = absurd (d (let same : a ≡ b = grind (arith, nat_tests) in same))
     differ a b false d e = e
+
     by_test : (b : Bool) → (t.txn == new.txn) ≡ b → turn_of setting other (with_turn new ts) ≡ turn_of setting other ts →
         (if (if b then new else t).txn == other then (if b then new else t) else turn_of setting other (with_turn new ts)) ≡ (if t.txn == other then t else turn_of setting other ts)
     by_test true e rest =
@@ -115,7 +119,8 @@ whole_ordered : IsInterval whole
 unfolding key_le
 whole_ordered = refl
 
-fit_by : (setting : Setting) (tree : ℕ) (first : Bool) (ranges : List Interval) → tree < setting.plan.trees → AllByRecursion IsInterval ranges → AllByRecursion (IsFitRelease setting) (releases_by tree first ranges)
+fit_by : (setting : Setting) (tree : ℕ) (first : Bool) (ranges : List Interval) → tree < setting.plan.trees → AllByRecursion IsInterval ranges →
+    AllByRecursion (IsFitRelease setting) (releases_by tree first ranges)
 fit_by setting tree first [] inside all = tt
 fit_by setting tree first (r ∷ rs) inside all = ((inside, all.0), fit_by setting tree false rs inside all.1)
 
@@ -153,7 +158,8 @@ steady_past setting turn goes steady = record {
   none_owed = steady.none_owed;
 }
 
-steady_granted : (setting : Setting) (tree : ℕ) (range : Interval) (buffered : Bool) (turn : Turn) → IsInterval range → is_some turn.outcome ≡ false → IsSteady setting turn → IsSteady setting (granted_to tree range buffered turn)
+steady_granted : (setting : Setting) (tree : ℕ) (range : Interval) (buffered : Bool) (turn : Turn) → IsInterval range → is_some turn.outcome ≡ false →
+    IsSteady setting turn → IsSteady setting (granted_to tree range buffered turn)
 steady_granted setting tree range buffered turn one goes steady =
     let next = steady_past setting turn goes steady in
     record {
@@ -192,17 +198,20 @@ steady_walked setting None turn lock goes steady = record {
 }
 steady_walked setting (Some walk) turn lock goes steady = steady_ending setting (Deadlock walk) turn steady
 
-steady_answered : (setting : Setting) (tree : ℕ) (range : Interval) (reply : Reply) (turn : Turn) → IsInterval range → is_some turn.outcome ≡ false → IsSteady setting turn → IsSteady setting (answered_by tree range reply turn)
+steady_answered : (setting : Setting) (tree : ℕ) (range : Interval) (reply : Reply) (turn : Turn) → IsInterval range → is_some turn.outcome ≡ false →
+    IsSteady setting turn → IsSteady setting (answered_by tree range reply turn)
 steady_answered setting tree range Granted turn one goes steady = steady_granted setting tree range false turn one goes steady
 steady_answered setting tree range Buffered turn one goes steady = steady_granted setting tree range true turn one goes steady
 steady_answered setting tree range (HeldBy owners) turn one goes steady = steady_past setting turn goes steady
 
-steady_locked : (setting : Setting) (tree : ℕ) (range : Interval) (reply : Reply) (walk : Option (List Edge)) (turn : Turn) → IsInterval range → IsAtLock turn.lines → is_some turn.outcome ≡ false → IsSteady setting turn → IsSteady setting (locked_by tree range reply walk turn)
+steady_locked : (setting : Setting) (tree : ℕ) (range : Interval) (reply : Reply) (walk : Option (List Edge)) (turn : Turn) → IsInterval range → IsAtLock turn.lines →
+    is_some turn.outcome ≡ false → IsSteady setting turn → IsSteady setting (locked_by tree range reply walk turn)
 steady_locked setting tree range Granted walk turn one lock goes steady = steady_granted setting tree range false turn one goes steady
 steady_locked setting tree range Buffered walk turn one lock goes steady = steady_granted setting tree range true turn one goes steady
 steady_locked setting tree range (HeldBy owners) walk turn one lock goes steady = steady_walked setting walk turn lock goes steady
 
-steady_asked : (setting : Setting) (lines : List Line) (reply : Reply) (walk : Option (List Edge)) (turn : Turn) → turn.lines ≡ lines → is_some turn.outcome ≡ false → IsSteady setting turn → IsSteady setting (asked_at lines reply walk turn)
+steady_asked : (setting : Setting) (lines : List Line) (reply : Reply) (walk : Option (List Edge)) (turn : Turn) → turn.lines ≡ lines → is_some turn.outcome ≡ false →
+    IsSteady setting turn → IsSteady setting (asked_at lines reply walk turn)
 steady_asked setting [] reply walk turn same goes steady = steady
 steady_asked setting (line ∷ lines) reply walk turn same goes steady =
     by_deed line.deed (let all : AllByRecursion (IsFitLine setting turn.txn) (line ∷ lines) = subst (AllByRecursion (IsFitLine setting turn.txn)) same steady.lines in all.0.deed) same
@@ -270,7 +279,8 @@ at_lock_more : (lines : List Line) (line : Line) → IsAtLock lines → IsAtLock
 at_lock_more [] line lock = absurd lock
 at_lock_more (l ∷ ls) line lock = lock
 
-pub steady_taking : (setting : Setting) (turn : Turn) (line : Line) → is_some turn.outcome ≡ false → IsFitLine setting turn.txn line → IsSteady setting turn → IsSteady setting (record turn { lines = turn.lines ++ line ∷ [] })
+pub steady_taking : (setting : Setting) (turn : Turn) (line : Line) → is_some turn.outcome ≡ false → IsFitLine setting turn.txn line → IsSteady setting turn →
+    IsSteady setting (record turn { lines = turn.lines ++ line ∷ [] })
 steady_taking setting turn line goes fit steady = record {
   lines = all_push (IsFitLine setting turn.txn) turn.lines line steady.lines fit;
   recorded = steady.recorded;

@@ -1,5 +1,6 @@
 -- What each step of the plain scheduler keeps, its whole run keeps.
-use Rattle.std.proofs.Common.{◌≡◌, ℕ, zero, suc, ◌<◌, List, [], ◌∷◌, ◌++◌, map, Bool, true, false, ◌==◌, ◌||◌, if◌then◌else◌, Option, Some, None, is_some, length, replicate, nat_cmp, refl, sym, ap, subst, ◌∙◌, arith, eq-eqb}
+use Rattle.std.proofs.Common.{◌≡◌, ℕ, zero, suc, ◌<◌, List, [], ◌∷◌, ◌++◌, map, Bool, true, false, ◌==◌, ◌||◌, if◌then◌else◌, Option, Some, None, is_some, length, replicate, nat_cmp}
+use Rattle.std.proofs.Common.{refl, sym, ap, subst, ◌∙◌, arith, eq-eqb}
 use Rattle.std.specs.List.{AllByRecursion, fold, find}
 use Rattle.std.specs.List.Sorted.{IsStrictlySortedBy}
 use Rattle.std.specs.declared.cmp.Ordering.TheVariants.{Less}
@@ -14,7 +15,6 @@ use Rattle.lt_runner.specs.Plays.{end_of, opening_turn}
 use Rattle.lt_runner.specs.Serial.{Game, turn_of, is_waiting, is_ready, plays_next, added, takes_line, ends_first, ends_one, opening_game, played}
 use Rattle.lt_runner.specs.Steps.{IsFitLine, AreRanges, IsSteady, IsInOrder, IsTurnOf, IsTaking, KeepsMoves, takes, KeepsSteps, IsFit}
 use Rattle.lt_runner.proofs.ChoiceLaws.{on_true, on_false}
-
 pub use Rattle.lt_runner.proofs.SteadyLaws.{numbers, turn_of_txn, turn_of_with, turn_of_other, numbers_with, all_with, at_turn, turn_has, fit_from, steady_after, after_txn, ready_goes}
 pub use Rattle.lt_runner.proofs.MoveLaws.{turn_after_does, the_turn, Holds, are_of, holds_swept, holds_settled}
 use Rattle.lt_runner.proofs.IdleLaws.{AreAtRest, rest_added, rest_settled, rest_swept}
@@ -24,21 +24,27 @@ use Rattle.lt_runner.proofs.MoveLaws.{AnyOne, keeps_of, in_order_with, holds_nex
 -- Steps keep it.
 
 -- the line that a transaction takes is played at once where it is ready
-holds_added : (setting : Setting) (txns : List ℕ) (P : Game → Type 0) (game : Game) (turn : Turn) (line : Line) → KeepsMoves setting txns P → IsTurnOf setting txns game turn → IsFitLine setting turn.txn line →
+holds_added : (setting : Setting) (txns : List ℕ) (P : Game → Type 0) (game : Game) (turn : Turn) (line : Line) → KeepsMoves setting txns P →
+    IsTurnOf setting txns game turn → IsFitLine setting turn.txn line →
     (is_some turn.outcome ≡ false → P (takes turn line game)) → (is_some turn.outcome ≡ true → P game) → Holds setting txns P (added setting line turn game)
 holds_added setting txns P game turn line keeps of_game fits takes_it passes = by_outcome (is_some turn.outcome) refl
   where
     next : Game
     next = takes turn line game
+
     steady : IsSteady setting turn
     steady = turn_has (IsSteady setting) setting txns game turn of_game of_game.order.steady
+
     taken : is_some turn.outcome ≡ false → Holds setting txns P next
     taken goes = record { order = in_order_with setting txns game.events game.released game _ of_game.order (steady_taking setting turn line goes fits steady); is = takes_it goes }
+
     there : turn_of setting turn.txn next.turns ≡ record turn { lines = turn.lines ++ line ∷ [] }
     there = turn_of_with setting (record turn { lines = turn.lines ++ line ∷ [] }) game.turns (ap (is_in turn.txn) of_game.order.numbers ∙ of_game.number)
+
     by_waiting : (b : Bool) → is_some turn.outcome ≡ false → Holds setting txns P (if b then next else plays_next setting turn.txn next)
     by_waiting true goes = taken goes
     by_waiting false goes = holds_next setting txns AnyOne P turn.txn next (keeps_of setting txns P keeps) tt of_game.number (taken goes) (ap (λ (t : Turn). is_some t.outcome) there ∙ goes)
+
     by_outcome : (b : Bool) → is_some turn.outcome ≡ b → Holds setting txns P (if b then game else if is_waiting turn then next else plays_next setting turn.txn next)
     by_outcome true ended = record { order = of_game.order; is = passes ended }
     by_outcome false goes = by_waiting (is_waiting turn) goes
@@ -116,7 +122,8 @@ found_ready setting (t ∷ ts) turn sorted found = by_test (is_ready t) refl fou
         }
 
 -- behind the last line one more is ended, where one is ready
-pub holds_ends_one : (setting : Setting) (txns : List ℕ) (P : List Line → Game → Type 0) (game : Game) → KeepsSteps setting txns P → HoldsBetween setting txns (P []) game → HoldsBetween setting txns (P []) (ends_one setting txns game)
+pub holds_ends_one : (setting : Setting) (txns : List ℕ) (P : List Line → Game → Type 0) (game : Game) → KeepsSteps setting txns P →
+    HoldsBetween setting txns (P []) game → HoldsBetween setting txns (P []) (ends_one setting txns game)
 holds_ends_one setting txns P game keeps between =
     let first = by_found (find is_ready game.turns) refl in
     record {
@@ -126,6 +133,7 @@ holds_ends_one setting txns P game keeps between =
   where
     order : IsInOrder setting txns game
     order = between.at_rest.order
+
     by_found : (found : Option Turn) → find is_ready game.turns ≡ found → HoldsBetween setting txns (P []) (ends_first setting txns found game)
     by_found None none = record { holds = holds_swept setting txns (P []) game (keeps.moves []) between.holds; at_rest = rest_swept setting txns game between.at_rest }
     by_found (Some turn) some =
@@ -196,7 +204,8 @@ opening_at_rest setting txns sorted = record {
 }
 
 -- what each step keeps, and the first game has, the last one has
-pub holds_played : (setting : Setting) (txns : List ℕ) (P : List Line → Game → Type 0) (lines : List Line) → KeepsSteps setting txns P → IsStrictlySortedBy nat_cmp txns → AllByRecursion (IsFit setting txns) lines →
+pub holds_played : (setting : Setting) (txns : List ℕ) (P : List Line → Game → Type 0) (lines : List Line) → KeepsSteps setting txns P → IsStrictlySortedBy nat_cmp txns →
+    AllByRecursion (IsFit setting txns) lines →
     P lines (opening_game setting txns) → HoldsBetween setting txns (P []) (played setting txns lines)
 holds_played setting txns P lines keeps sorted fit first =
     holds_all_ended setting txns P txns _ keeps

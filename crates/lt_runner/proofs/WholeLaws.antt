@@ -1,5 +1,6 @@
 -- The plain scheduler's run keeps to the rules of runs at each step.
-use Rattle.std.proofs.Common.{◌≡◌, ◌≢◌, ◌⊎◌, inl, inr, ℕ, suc, ◌<◌, ◌≤◌, List, [], ◌∷◌, ◌++◌, map, Bool, true, false, ◌==◌, if◌then◌else◌, is_some, nat_lt, ◌&&◌, length, Contains, nat_cmp, refl, sym, ap, subst, ◌∙◌, arith, append-nil, append_assoc, eq-eqb}
+use Rattle.std.proofs.Common.{◌≡◌, ◌≢◌, ◌⊎◌, inl, inr, ℕ, suc, ◌<◌, ◌≤◌, List, [], ◌∷◌, ◌++◌, map, Bool, true, false, ◌==◌, if◌then◌else◌, is_some, nat_lt, ◌&&◌, length, Contains}
+use Rattle.std.proofs.Common.{nat_cmp, refl, sym, ap, subst, ◌∙◌, arith, append-nil, append_assoc, eq-eqb}
 use Rattle.std.specs.List.{AllByRecursion, filter_map}
 use Rattle.std.specs.List.Sorted.{IsStrictlySortedBy}
 use Rattle.std.proofs.lemmas.Bool.Decides.{nat_tests}
@@ -36,7 +37,8 @@ use Rattle.lt_runner.proofs.RunLaws.{come_is_run}
 use Rattle.lt_runner.proofs.WishLaws.{IsPlaced, all_placed, wishes_at, are_wishes, wish_other, fit_wishes}
 use Rattle.lt_runner.proofs.SearchedLaws.{IsFitWish}
 use Rattle.lt_runner.proofs.AttemptLaws.{seat_at, at_lines, done_moves, done_line, free_moves}
-use Rattle.lt_runner.proofs.FollowLaws.{in_play, in_play_open, in_play_after, in_play_over, Comes, comes_searched, comes_stays, comes_moved, comes_same, play_other, play_taken, play_ended, to_come, lines_behind}
+use Rattle.lt_runner.proofs.FollowLaws.{in_play, in_play_open, in_play_after, in_play_over, Comes, comes_searched, comes_stays, comes_moved, comes_same, play_other, play_taken}
+use Rattle.lt_runner.proofs.FollowLaws.{play_ended, to_come, lines_behind}
 
 -- All transactions, half played, in one legal history.
 pub record Runs (setting : Setting) (txns : List ℕ) (lines left : List Line) (game : Game) : Type 0 where
@@ -52,12 +54,15 @@ record Known (setting : Setting) (lines left : List Line) (searches : List Searc
   placed : IsPlaced setting game.turns turn
   steady : IsSteady setting turn
 
-known : (setting : Setting) (lines left : List Line) (searches : List Search) (game : Game) (turns : List Turn) → AllByRecursion (Comes setting lines left searches game.events) turns → AllByRecursion (IsPlaced setting game.turns) turns → AllByRecursion (IsSteady setting) turns →
+known : (setting : Setting) (lines left : List Line) (searches : List Search) (game : Game) (turns : List Turn) →
+    AllByRecursion (Comes setting lines left searches game.events) turns → AllByRecursion (IsPlaced setting game.turns) turns → AllByRecursion (IsSteady setting) turns →
     AllByRecursion (Known setting lines left searches game) turns
 known setting lines left searches game [] come placed steady = tt
-known setting lines left searches game (t ∷ ts) come placed steady = (record { comes = come.0; placed = placed.0; steady = steady.0 }, known setting lines left searches game ts come.1 placed.1 steady.1)
+known setting lines left searches game (t ∷ ts) come placed steady =
+    (record { comes = come.0; placed = placed.0; steady = steady.0 }, known setting lines left searches game ts come.1 placed.1 steady.1)
 
-all_known : (setting : Setting) (txns : List ℕ) (lines left : List Line) (game : Game) (runs : Runs setting txns lines left game) → IsInOrder setting txns game → AllByRecursion (Known setting lines left runs.searches game) game.turns
+all_known : (setting : Setting) (txns : List ℕ) (lines left : List Line) (game : Game) (runs : Runs setting txns lines left game) → IsInOrder setting txns game →
+    AllByRecursion (Known setting lines left runs.searches game) game.turns
 all_known setting txns lines left game runs order =
     known setting lines left runs.searches game game.turns runs.come (all_placed setting game.turns (subst (IsStrictlySortedBy nat_cmp) (sym order.numbers) order.sorted)) order.steady
 
@@ -69,7 +74,8 @@ own_in : (txns : List ℕ) (txn : ℕ) (events : List Event) → is_in txn txns 
 own_in txns txn [] there own = tt
 own_in txns txn (e ∷ es) there own = (subst (λ (n : ℕ). is_in n txns ≡ true) (sym own.0) there, own_in txns txn es there own.1)
 
-before_more : (setting : Setting) (events more : List Event) (searches : List Search) → AllByRecursion (λ s. s.place < place_after setting events) searches → AllByRecursion (λ s. s.place < place_after setting (events ++ more)) searches
+before_more : (setting : Setting) (events more : List Event) (searches : List Search) → AllByRecursion (λ s. s.place < place_after setting events) searches →
+    AllByRecursion (λ s. s.place < place_after setting (events ++ more)) searches
 before_more setting events more [] all = tt
 before_more setting events more (s ∷ ss) all = ((let k = longer setting events more in omega (arith, all.0, k)), before_more setting events more ss all.1)
 
@@ -125,7 +131,8 @@ fits_others : (txn from : ℕ) (searches : List Search) → AllByRecursion (λ s
 fits_others txn from [] all = tt
 fits_others txn from (s ∷ ss) all = ((λ other. all.0), fits_others txn from ss all.1)
 
-fits_own : (txn from : ℕ) (searches found : List Search) → AllByRecursion (λ s. s.txn ≢ txn → s.place < from) searches → AllByRecursion (λ s. s.txn ≡ txn) found → AllByRecursion (λ s. s.txn ≢ txn → s.place < from) (searches ++ found)
+fits_own : (txn from : ℕ) (searches found : List Search) → AllByRecursion (λ s. s.txn ≢ txn → s.place < from) searches → AllByRecursion (λ s. s.txn ≡ txn) found →
+    AllByRecursion (λ s. s.txn ≢ txn → s.place < from) (searches ++ found)
 fits_own txn from [] [] all own = tt
 fits_own txn from [] (s ∷ ss) all own = ((λ other. absurd (other own.0)), fits_own txn from [] ss tt own.1)
 fits_own txn from (s ∷ ss) found all own = (all.0, fits_own txn from ss found all.1 own)
@@ -144,13 +151,15 @@ before_both : (place : ℕ) (xs ys : List Search) → AllByRecursion (λ s. s.pl
 before_both place [] ys all rest = rest
 before_both place (x ∷ xs) ys all rest = (all.0, before_both place xs ys all.1 rest)
 
-ask_before : (setting : Setting) (txn : ℕ) (events : List Event) (joins : List Receipt) (ask : Receipt) (rest : List Receipt) → AreCalls setting txn events (joins ++ ask ∷ rest) → ask.place < place_after setting (events ++ events_of (joins ++ ask ∷ rest))
+ask_before : (setting : Setting) (txn : ℕ) (events : List Event) (joins : List Receipt) (ask : Receipt) (rest : List Receipt) →
+    AreCalls setting txn events (joins ++ ask ∷ rest) → ask.place < place_after setting (events ++ events_of (joins ++ ask ∷ rest))
 ask_before setting txn events [] ask rest calls = omega (arith, ap (λ (r : Receipt). r.place) calls.0.is, length-append events (events_of (ask ∷ rest)))
 ask_before setting txn events (j ∷ js) ask rest calls =
     omega (arith, ask_before setting txn (events ++ j.event ∷ []) js ask rest calls.1, ap length (append_assoc events (j.event ∷ []) (events_of (js ++ ask ∷ rest))))
 
 -- its search lies in the history that it makes
-found_before : (setting : Setting) (txn : ℕ) (events : List Event) (move : Move) (own : ℕ) → AreCalls setting txn events (receipts_in move) → AllByRecursion (λ s. s.place < place_after setting (events ++ events_of (receipts_in move))) (found_in own move)
+found_before : (setting : Setting) (txn : ℕ) (events : List Event) (move : Move) (own : ℕ) → AreCalls setting txn events (receipts_in move) →
+    AllByRecursion (λ s. s.place < place_after setting (events ++ events_of (receipts_in move))) (found_in own move)
 found_before setting txn events (leaves joins) own calls = tt
 found_before setting txn events (asks joins ask) own calls = tt
 found_before setting txn events (waits joins ask wishes search_found) own calls = (ask_before setting txn events joins ask search_found calls, tt)
@@ -182,12 +191,14 @@ late_search setting game ends late = tt
 late_search setting game (frees free) late = tt
 
 -- the turn with the searches that there are now
-searched_too : (setting : Setting) (lines left : List Line) (searches : List Search) (game : Game) (mover turn : Turn) (move : Move) → SearchesAmong (wishes_at mover game.turns) move → IsLateSearch setting game move →
+searched_too : (setting : Setting) (lines left : List Line) (searches : List Search) (game : Game) (mover turn : Turn) (move : Move) →
+    SearchesAmong (wishes_at mover game.turns) move → IsLateSearch setting game move →
     IsStrictlySortedBy nat_cmp (map (λ t. t.txn) game.turns) → Known setting lines left searches game turn → Comes setting lines left (searches ++ found_in mover.txn move) game.events turn
 searched_too setting lines left searches game mover turn move among late sorted known_turn = by_move move among late
   where
     none : Comes setting lines left (searches ++ []) game.events turn
     none = subst (λ (ss : List Search). Comes setting lines left ss game.events turn) (sym (append-nil searches)) known_turn.comes
+
     by_move : (m : Move) → SearchesAmong (wishes_at mover game.turns) m → IsLateSearch setting game m → Comes setting lines left (searches ++ found_in mover.txn m) game.events turn
     by_move (leaves joins) a l = none
     by_move (asks joins ask) a l = none
@@ -201,7 +212,8 @@ searched_too setting lines left searches game mover turn move among late sorted 
     by_move (frees free) a l = none
 
 -- one move more
-runs_move : (setting : Setting) (txns : List ℕ) (lines left : List Line) (game : Game) (turn : Turn) (move : Move) → IsMade setting txns left game turn move → Runs setting txns lines left game → Runs setting txns lines left (does setting turn move game)
+runs_move : (setting : Setting) (txns : List ℕ) (lines left : List Line) (game : Game) (turn : Turn) (move : Move) → IsMade setting txns left game turn move →
+    Runs setting txns lines left game → Runs setting txns lines left (does setting turn move game)
 runs_move setting txns lines left game turn move made runs =
     let order = made.of_game.order in
     let more = events_of (receipts_in move) in
@@ -227,29 +239,34 @@ runs_move setting txns lines left game turn move made runs =
           (comes_moved setting lines left searches found game.events turn (turn_after turn move) (receipts_in move) move fits (among_found turn.txn move) same made.calls made.moves
           (searched_too setting lines left runs.searches game turn turn move made.among late sorted mine))
           (λ t differs known_turn. comes_stays setting lines left searches game.events more t turn.txn own (λ is. differs (is ∙ sym same))
-              (searched_too setting lines left runs.searches game turn t move made.among late sorted known_turn));
+          (searched_too setting lines left runs.searches game turn t move made.among late sorted known_turn));
     }
 
 -- The moves of the scheduler.
 
-among_ask : (setting : Setting) (turns : List Turn) (turn : Turn) (locks : Bool) (events : List Event) (joins : List Receipt) (ask : Receipt) → SearchesAmong (wishes_at turn turns) (ask_move setting turns turn locks events joins ask)
+among_ask : (setting : Setting) (turns : List Turn) (turn : Turn) (locks : Bool) (events : List Event) (joins : List Receipt) (ask : Receipt) →
+    SearchesAmong (wishes_at turn turns) (ask_move setting turns turn locks events joins ask)
 among_ask setting turns turn locks events joins ask = by_test (locks && is_held (reply_in ask.event.deed)) _
   where
     by_test : (b : Bool) (found : List Receipt) → SearchesAmong (wishes_at turn turns) (if b then waits joins ask (wishes_at turn turns) found else asks joins ask)
     by_test true found = refl
     by_test false found = tt
 
-among_attempt : (setting : Setting) (turns : List Turn) (turn : Turn) (locks : Bool) (deed : Deed) (events : List Event) → SearchesAmong (wishes_at turn turns) (attempt setting turns turn locks deed events)
+among_attempt : (setting : Setting) (turns : List Turn) (turn : Turn) (locks : Bool) (deed : Deed) (events : List Event) →
+    SearchesAmong (wishes_at turn turns) (attempt setting turns turn locks deed events)
 among_attempt setting turns turn locks deed events = by_room (nat_lt (used (after setting events)) (bar_of setting turn))
   where
     joins : List Receipt
     joins = joins_of setting turn.txn (numbers_from 0 setting.plan.trees) events
+
     mid : List Event
     mid = events ++ events_of joins
+
     by_second : (b : Bool) → SearchesAmong (wishes_at turn turns)
         (if b then ask_move setting turns turn locks mid joins (receipt_after setting mid 0 turn.txn deed) else stops joins (place_after setting mid) (used (after setting mid)))
     by_second true = among_ask setting turns turn locks mid joins (receipt_after setting mid 0 turn.txn deed)
     by_second false = tt
+
     by_room : (b : Bool) → SearchesAmong (wishes_at turn turns)
         (if b then ask_move setting turns turn locks events [] (receipt_after setting events 0 turn.txn deed) else behind_joins setting turns turn locks deed mid joins)
     by_room true = among_ask setting turns turn locks events [] (receipt_after setting events 0 turn.txn deed)
@@ -267,7 +284,8 @@ lines_steady : (setting : Setting) (turns : List Turn) → AllByRecursion (IsSte
 lines_steady setting [] all = tt
 lines_steady setting (t ∷ ts) all = (all.0.lines, lines_steady setting ts all.1)
 
-made_line : (setting : Setting) (txns : List ℕ) (left : List Line) (game : Game) (turn : Turn) (line : Line) (lines : List Line) → 0 < setting.plan.passes → IsAtLine setting txns game turn line lines → IsMade setting txns left game turn (line_move setting game turn line.deed)
+made_line : (setting : Setting) (txns : List ℕ) (left : List Line) (game : Game) (turn : Turn) (line : Line) (lines : List Line) → 0 < setting.plan.passes →
+    IsAtLine setting txns game turn line lines → IsMade setting txns left game turn (line_move setting game turn line.deed)
 made_line setting txns left game turn line lines pass at =
     let order = at.of_game.order in
     let steady = turn_has (IsSteady setting) setting txns game turn at.of_game order.steady in
@@ -278,16 +296,21 @@ made_line setting txns left game turn line lines pass at =
     let waiting : Turn = record turn { waits = true } in
     let wishes : AllByRecursion (IsFitWish setting) (wishes_at turn game.turns) =
     fit_wishes setting (with_turn waiting game.turns)
-    (all_with (λ t. AllByRecursion (IsFitLine setting t.txn) t.lines) (λ t. AllByRecursion (IsFitLine setting t.txn) t.lines) waiting game.turns (lines_steady setting game.turns order.steady) steady.lines (λ t differs all. all)) in
-    let done = done_line setting game turn (line ∷ behind_it) line.deed fits.0.deed (are_wishes setting turn game.turns line lines sorted (ap (is_in turn.txn) order.numbers ∙ at.of_game.number) at.next) wishes in
+    (all_with (λ t. AllByRecursion (IsFitLine setting t.txn) t.lines) (λ t. AllByRecursion (IsFitLine setting t.txn) t.lines) waiting game.turns
+    (lines_steady setting game.turns order.steady) steady.lines (λ t differs all. all)) in
+    let done = done_line setting game turn (line ∷ behind_it) line.deed fits.0.deed
+    (are_wishes setting turn game.turns line lines sorted (ap (is_in turn.txn) order.numbers ∙ at.of_game.number) at.next) wishes in
     let may = done.may (record { since = setting.plan.first; held = 0; left = false }) (omega arith) in
-    let new_same = in_play_after setting (game.events ++ events_of (receipts_in move)) (record { since = setting.plan.first; held = 0; left = false }) (at_lines turn (line ∷ behind_it)) left turn line lines move at.goes at.next may in
+    let new_same = in_play_after setting (game.events ++ events_of (receipts_in move)) (record { since = setting.plan.first; held = 0; left = false })
+    (at_lines turn (line ∷ behind_it)) left turn line lines move at.goes at.next may in
     let old_same = in_play_open left turn line lines at.goes at.next in
     record {
       of_game = at.of_game;
       calls = done.calls;
-      moves = subst (λ (t : Turn). MovesBy false setting game.events (game.events ++ events_of (receipts_in move)) (seat_at t) (seat_at (in_play left (turn_after turn move))) (receipts_in move) move) (sym old_same)
-          (subst (λ (t : Turn). MovesBy false setting game.events (game.events ++ events_of (receipts_in move)) (seat_at (at_lines turn (line ∷ behind_it))) (seat_at t) (receipts_in move) move) new_same
+      moves = subst (λ (t : Turn). MovesBy false setting game.events (game.events ++ events_of (receipts_in move)) (seat_at t)
+          (seat_at (in_play left (turn_after turn move))) (receipts_in move) move) (sym old_same)
+          (subst (λ (t : Turn). MovesBy false setting game.events (game.events ++ events_of (receipts_in move)) (seat_at (at_lines turn (line ∷ behind_it))) (seat_at t)
+          (receipts_in move) move) new_same
           (done_moves setting game.events turn line behind_it move done));
       among = among_line setting game turn line.deed;
       pass = pass;
@@ -303,7 +326,8 @@ made_free setting txns left game turn r rs pass at =
     record {
       of_game = at.of_game;
       calls = (record { deed = Free r.tree r.range r.first 0; is = refl; tree = fits.0.0; question = fits.0.1 }, tt);
-      moves = subst (λ (t : Turn). MovesBy false setting game.events (game.events ++ free.event ∷ []) (seat_at t) (seat_at (in_play left new)) (free ∷ []) (frees free)) (sym (in_play_over left turn at.ended))
+      moves = subst (λ (t : Turn). MovesBy false setting game.events (game.events ++ free.event ∷ []) (seat_at t) (seat_at (in_play left new)) (free ∷ []) (frees free))
+          (sym (in_play_over left turn at.ended))
           (subst (λ (t : Turn). MovesBy false setting game.events (game.events ++ free.event ∷ []) (seat_at turn) (seat_at t) (free ∷ []) (frees free)) (sym (in_play_over left new at.ended))
           (free_moves setting game.events turn r rs (steady.over at.ended) at.next fits.0.0 fits.0.1));
       among = tt;
@@ -312,7 +336,8 @@ made_free setting txns left game turn r rs pass at =
 
 -- Steps.
 
-runs_with : (setting : Setting) (txns : List ℕ) (lines left later : List Line) (game : Game) (turn new : Turn) → IsTurnOf setting txns game turn → new.txn ≡ turn.txn → in_play left turn ≡ in_play later new →
+runs_with : (setting : Setting) (txns : List ℕ) (lines left later : List Line) (game : Game) (turn new : Turn) → IsTurnOf setting txns game turn → new.txn ≡ turn.txn →
+    in_play left turn ≡ in_play later new →
     ((t : Turn) → t.txn ≢ turn.txn → in_play left t ≡ in_play later t) → Runs setting txns lines left game → Runs setting txns lines later (record game { turns = with_turn new game.turns })
 runs_with setting txns lines left later game turn new of_game same mine others runs = record {
   searches = runs.searches;
@@ -324,19 +349,25 @@ runs_with setting txns lines left later game turn new of_game same mine others r
       (λ t differs comes. comes_same setting lines left later runs.searches game.events t t refl (others t (λ is. differs (is ∙ sym same))) comes);
 }
 
-taken_play : (line : Line) (left : List Line) (turn : Turn) → line.txn ≡ turn.txn → is_some turn.outcome ≡ false → in_play (line ∷ left) turn ≡ in_play left (record turn { lines = turn.lines ++ line ∷ [] })
+taken_play : (line : Line) (left : List Line) (turn : Turn) → line.txn ≡ turn.txn → is_some turn.outcome ≡ false →
+    in_play (line ∷ left) turn ≡ in_play left (record turn { lines = turn.lines ++ line ∷ [] })
 taken_play line left turn own goes = by_case (play_taken line left turn own)
   where
-    by_case : in_play (line ∷ left) turn ≡ in_play left (record turn { lines = turn.lines ++ line ∷ [] }) ⊎ (is_some turn.outcome ≡ true) → in_play (line ∷ left) turn ≡ in_play left (record turn { lines = turn.lines ++ line ∷ [] })
+    by_case : in_play (line ∷ left) turn ≡ in_play left (record turn { lines = turn.lines ++ line ∷ [] }) ⊎ (is_some turn.outcome ≡ true) →
+        in_play (line ∷ left) turn ≡ in_play left (record turn { lines = turn.lines ++ line ∷ [] })
     by_case (inl same) = same
     by_case (inr ended) = absurd (let k : false ≡ true = sym goes ∙ ended in cc)
 
 -- a line of one that has ended changes nothing
-passed : (setting : Setting) (txns : List ℕ) (lines left : List Line) (line : Line) (searches : List Search) (game : Game) (turn : Turn) → is_some turn.outcome ≡ true → line.txn ≡ turn.txn → turn_of setting turn.txn game.turns ≡ turn →
+passed : (setting : Setting) (txns : List ℕ) (lines left : List Line) (line : Line) (searches : List Search) (game : Game) (turn : Turn) → is_some turn.outcome ≡ true →
+    line.txn ≡ turn.txn → turn_of setting turn.txn game.turns ≡ turn →
     (turns : List Turn) → AllByRecursion (Known setting lines (line ∷ left) searches game) turns → AllByRecursion (Comes setting lines left searches game.events) turns
 passed setting txns lines left line searches game turn ended own there [] all = tt
-passed setting txns lines left line searches game turn ended own there (t ∷ ts) all =
-    (comes_same setting lines (line ∷ left) left searches game.events t t refl (by_test (line.txn == t.txn) refl) all.0.comes, passed setting txns lines left line searches game turn ended own there ts all.1)
+passed setting txns lines left line searches game turn ended own there (t ∷ ts) all = (
+  comes_same setting lines (line ∷ left) left searches game.events t t refl
+      (by_test (line.txn == t.txn) refl) all.0.comes,
+  passed setting txns lines left line searches game turn ended own there ts all.1,
+)
   where
     by_test : (b : Bool) → (line.txn == t.txn) ≡ b → in_play (line ∷ left) t ≡ in_play left t
     by_test true e =
@@ -350,7 +381,8 @@ pub runs_keeps : (setting : Setting) (txns : List ℕ) (lines : List Line) → 0
 runs_keeps setting txns lines pass = record {
   moves = λ left. record {
     plays = λ game turn line rest at runs. runs_move setting txns lines left game turn (line_move setting game turn line.deed) (made_line setting txns left game turn line rest pass at) runs;
-    gives = λ game turn r rs at runs. runs_move setting txns lines left game turn (frees (receipt_after setting game.events 0 turn.txn (Free r.tree r.range r.first 0))) (made_free setting txns left game turn r rs pass at) runs;
+    gives = λ game turn r rs at runs. runs_move setting txns lines left game turn (frees (receipt_after setting game.events 0 turn.txn (Free r.tree r.range r.first 0)))
+        (made_free setting txns left game turn r rs pass at) runs;
     marks = λ game released runs. record { searches = runs.searches; before = runs.before; legal = runs.legal; own = runs.own; come = runs.come };
   };
   adds = λ game turn line left at runs.
@@ -364,7 +396,8 @@ runs_keeps setting txns lines pass = record {
     come = passed setting txns lines left line runs.searches game turn at.ended at.fits.own at.of_game.there game.turns (all_known setting txns lines (line ∷ left) game runs at.of_game.order);
   };
   ends = λ game turn at runs.
-      runs_with setting txns lines [] [] game turn (record turn { lines = turn.lines ++ end_of turn.txn ∷ [] }) at.of_game refl (play_ended turn at.empty (ready_goes turn at.ready)) (λ t differs. refl) runs;
+      runs_with setting txns lines [] [] game turn (record turn { lines = turn.lines ++ end_of turn.txn ∷ [] }) at.of_game refl
+      (play_ended turn at.empty (ready_goes turn at.ready)) (λ t differs. refl) runs;
 }
 
 -- The first game, and the last one.
@@ -390,11 +423,13 @@ opening_comes setting lines (txn ∷ txns) = (
 pub opening_runs : (setting : Setting) (txns : List ℕ) (lines : List Line) → Runs setting txns lines lines (opening_game setting txns)
 opening_runs setting txns lines = record { searches = []; before = tt; legal = tt; own = tt; come = opening_comes setting lines txns }
 
-seats_stand : (setting : Setting) (lines : List Line) (searches : List Search) (events : List Event) (turns : List Turn) → AllByRecursion (λ t. IsOver (seat_at t)) turns → AllByRecursion (Comes setting lines [] searches events) turns →
+seats_stand : (setting : Setting) (lines : List Line) (searches : List Search) (events : List Event) (turns : List Turn) →
+    AllByRecursion (λ t. IsOver (seat_at t)) turns → AllByRecursion (Comes setting lines [] searches events) turns →
     AllByRecursion (Stands false setting searches lines events) (map seat_at turns)
 seats_stand setting lines searches events [] over all = tt
 seats_stand setting lines searches events (t ∷ ts) over all = (
-  subst (λ (u : Turn). HasCome false setting searches events (opening_stage setting t.txn (lines_for t.txn lines)) (seat_at u) (receipts_of setting.plan.first t.txn events)) (in_play_over [] t over.0.0) all.0.come,
+  subst (λ (u : Turn). HasCome false setting searches events (opening_stage setting t.txn (lines_for t.txn lines)) (seat_at u)
+      (receipts_of setting.plan.first t.txn events)) (in_play_over [] t over.0.0) all.0.come,
   seats_stand setting lines searches events ts over.1 all.1,
 )
 
@@ -411,7 +446,8 @@ seats_turns [] = refl
 seats_turns (t ∷ ts) = ap (λ (us : List Turn). t ∷ us) (seats_turns ts)
 
 -- Where all have ended and given back all, it is a run.
-pub runs_out : (setting : Setting) (lines : List Line) (game : Game) → map (λ t. t.txn) game.turns ≡ txns_of lines → AllByRecursion (λ t. IsOver (seat_at t)) game.turns → Runs setting (txns_of lines) lines [] game →
+pub runs_out : (setting : Setting) (lines : List Line) (game : Game) → map (λ t. t.txn) game.turns ≡ txns_of lines → AllByRecursion (λ t. IsOver (seat_at t)) game.turns →
+    Runs setting (txns_of lines) lines [] game →
     (plays : List Play) × IsRun false setting lines game.events plays × (map ended_as plays ≡ filter_map ended_in game.turns)
 runs_out setting lines game numbers over runs =
     let out = come_is_run false setting runs.searches lines game.events (map seat_at game.turns)

@@ -1,5 +1,6 @@
 -- The wishes of those that wait.
-use Rattle.std.proofs.Common.{◌≡◌, ◌≢◌, ℕ, ◌<◌, List, [], ◌∷◌, ◌++◌, map, Bool, true, false, ◌==◌, ◌||◌, if◌then◌else◌, Option, Some, None, nat_cmp, refl, sym, ap, subst, ◌∙◌, arith, append-nil, append_assoc, eq-eqb, nat_lt}
+use Rattle.std.proofs.Common.{◌≡◌, ◌≢◌, ℕ, ◌<◌, List, [], ◌∷◌, ◌++◌, map, Bool, true, false, ◌==◌, ◌||◌, if◌then◌else◌, Option, Some, None, nat_cmp, refl, sym, ap, subst, ◌∙◌, arith}
+use Rattle.std.proofs.Common.{append-nil, append_assoc, eq-eqb, nat_lt}
 use Rattle.std.specs.List.{AllByRecursion, cons_option, fold}
 use Rattle.std.specs.List.Sorted.{IsStrictlySortedBy}
 use Rattle.std.specs.declared.cmp.Ordering.TheVariants.{Less}
@@ -110,12 +111,14 @@ absent txn (t ∷ ts) none = by_wish (wish_of t) refl (t.txn == txn) refl none (
         on_false (w.txn == txn) (Some w) _ (ap (λ (n : ℕ). n == txn) (wish_of_number t w e) ∙ h) ∙ later out
 
 -- one that is there has its own
-pub wish_there : (setting : Setting) (txn : ℕ) (turns : List Turn) → IsStrictlySortedBy nat_cmp (numbers turns) → is_in txn (numbers turns) ≡ true → wish_in txn (wishes_in turns) ≡ wish_of (turn_of setting txn turns)
+pub wish_there : (setting : Setting) (txn : ℕ) (turns : List Turn) → IsStrictlySortedBy nat_cmp (numbers turns) → is_in txn (numbers turns) ≡ true →
+    wish_in txn (wishes_in turns) ≡ wish_of (turn_of setting txn turns)
 unfolding IsStrictlySortedBy
 wish_there setting txn [] sorted there = absurd cc
 wish_there setting txn (t ∷ ts) sorted there = by_wish (wish_of t) refl (t.txn == txn) refl there (wish_there setting txn ts sorted.1)
   where
-    by_wish : (o : Option Wish) → wish_of t ≡ o → (b : Bool) → (t.txn == txn) ≡ b → (b || is_in txn (numbers ts)) ≡ true → (is_in txn (numbers ts) ≡ true → wish_in txn (wishes_in ts) ≡ wish_of (turn_of setting txn ts)) →
+    by_wish : (o : Option Wish) → wish_of t ≡ o → (b : Bool) → (t.txn == txn) ≡ b → (b || is_in txn (numbers ts)) ≡ true →
+        (is_in txn (numbers ts) ≡ true → wish_in txn (wishes_in ts) ≡ wish_of (turn_of setting txn ts)) →
         wish_in txn (cons_option o (wishes_in ts)) ≡ wish_of (if b then t else turn_of setting txn ts)
     by_wish None e true h yes_in later =
         absent txn ts (above_not t.txn txn (numbers ts) sorted.0 (let same : t.txn ≡ txn = grind (arith, nat_tests) in sym same)) ∙ sym e
@@ -145,7 +148,8 @@ sorted_wishes (t ∷ ts) sorted = by_wish (wish_of t) refl (sorted_wishes ts sor
 with_last : (n : ℕ) (ns : List ℕ) → AllByRecursion (λ m. m < n) ns → with_number n ns ≡ ns ++ n ∷ []
 with_last n [] below = refl
 with_last n (m ∷ ms) below =
-    on_false (nat_lt n m) _ _ (grind (arith, nat_tests, below.0)) ∙ on_false (n == m) (m ∷ ms) (m ∷ with_number n ms) (grind (arith, nat_tests, below.0)) ∙ ap (λ (l : List ℕ). m ∷ l) (with_last n ms below.1)
+    on_false (nat_lt n m) _ _ (grind (arith, nat_tests, below.0)) ∙ on_false (n == m) (m ∷ ms) (m ∷ with_number n ms) (grind (arith, nat_tests, below.0))
+    ∙ ap (λ (l : List ℕ). m ∷ l) (with_last n ms below.1)
 
 below_first : (n : ℕ) (ns old : List ℕ) → AllByRecursion (λ m. AllAbove m (n ∷ ns)) old → AllByRecursion (λ m. m < n) old
 below_first n ns [] all = tt
@@ -170,7 +174,8 @@ ascending_stays ns sorted = fold_sorted [] ns sorted tt
 abbrev pub wishes_at : Turn → List Turn → List Wish
 wishes_at turn turns = wishes_in (with_turn (record turn { waits = true }) turns)
 
-pub are_wishes : (setting : Setting) (turn : Turn) (turns : List Turn) (line : Line) (lines : List Line) → IsStrictlySortedBy nat_cmp (numbers turns) → is_in turn.txn (numbers turns) ≡ true → turn.lines ≡ line ∷ lines →
+pub are_wishes : (setting : Setting) (turn : Turn) (turns : List Turn) (line : Line) (lines : List Line) → IsStrictlySortedBy nat_cmp (numbers turns) →
+    is_in turn.txn (numbers turns) ≡ true → turn.lines ≡ line ∷ lines →
     AreWishes (wishes_at turn turns) turn.txn line.deed
 are_wishes setting turn turns line lines sorted there next =
     let new : Turn = record turn { waits = true } in
@@ -181,7 +186,8 @@ are_wishes setting turn turns line lines sorted there next =
     )
 
 -- another is registered where it waits
-pub wish_other : (setting : Setting) (turn other : Turn) (turns : List Turn) → IsStrictlySortedBy nat_cmp (numbers turns) → IsPlaced setting turns other → other.txn ≢ turn.txn → wish_in other.txn (wishes_at turn turns) ≡ wish_of other
+pub wish_other : (setting : Setting) (turn other : Turn) (turns : List Turn) → IsStrictlySortedBy nat_cmp (numbers turns) → IsPlaced setting turns other →
+    other.txn ≢ turn.txn → wish_in other.txn (wishes_at turn turns) ≡ wish_of other
 wish_other setting turn other turns sorted placed differs =
     let new : Turn = record turn { waits = true } in
     let kept = numbers_with new turns in
@@ -215,6 +221,7 @@ fit_wishes setting (t ∷ ts) all = by_wish (wish_of t) refl (fit_wishes setting
         by_test : (b : Bool) → (if b then next_wish t.txn t.lines else None) ≡ Some w → IsFitWish setting w
         by_test true h = fit_wish setting t.txn t.lines w all.0 h
         by_test false h = absurd cc
+
     by_wish : (o : Option Wish) → wish_of t ≡ o → AllByRecursion (IsFitWish setting) (wishes_in ts) → AllByRecursion (IsFitWish setting) (cons_option o (wishes_in ts))
     by_wish None e rest = rest
     by_wish (Some w) e rest = (of_turn w e, rest)

@@ -17,29 +17,70 @@ pub returns : goal.returns
 unfolding key_le digits
 returns c = record {
   played = record {
-    legal = (record { pass = lit< tt; tree = lit< tt; question = refl; replies = refl }, (record { pass = lit< tt; tree = lit< tt; question = refl; replies = refl },
-        (record { pass = lit< tt; tree = lit< tt; question = refl; replies = refl }, (record { pass = lit< tt; tree = lit< tt; question = refl; replies = refl },
-        (record { pass = lit< tt; tree = lit< tt; question = refl; replies = refl }, (record { pass = lit< tt; tree = lit< tt; question = refl; replies = refl },
-        (record { pass = lit< tt; tree = lit< tt; question = refl; replies = refl }, (record { pass = lit< tt; tree = lit< tt; question = refl; replies = refl },
-        (record { pass = lit< tt; tree = lit< tt; question = refl; replies = refl }, (record { pass = lit< tt; tree = lit< tt; question = refl; replies = refl },
-        (record { pass = lit< tt; tree = lit< tt; question = refl; replies = refl }, tt)))))))))));
+    legal = (
+      record { pass = lit< tt; tree = lit< tt; question = refl; replies = refl },
+      (
+        record { pass = lit< tt; tree = lit< tt; question = refl; replies = refl },
+        (
+          record { pass = lit< tt; tree = lit< tt; question = refl; replies = refl },
+          (
+            record { pass = lit< tt; tree = lit< tt; question = refl; replies = refl },
+            (
+              record { pass = lit< tt; tree = lit< tt; question = refl; replies = refl },
+              (
+                record { pass = lit< tt; tree = lit< tt; question = refl; replies = refl },
+                (
+                  record { pass = lit< tt; tree = lit< tt; question = refl; replies = refl },
+                  (
+                    record { pass = lit< tt; tree = lit< tt; question = refl; replies = refl },
+                    (
+                      record { pass = lit< tt; tree = lit< tt; question = refl; replies = refl },
+                      (
+                        record { pass = lit< tt; tree = lit< tt; question = refl; replies = refl },
+                        (record { pass = lit< tt; tree = lit< tt; question = refl; replies = refl }, tt),
+                      ),
+                    ),
+                  ),
+                ),
+              ),
+            ),
+          ),
+        ),
+      ),
+    );
     txns = refl;
-    played = (record {
-      played = (((0, lit≤ tt, lit≤ tt, lit< tt), refl, refl, refl),
-          (((2, lit≤ tt, lit≤ tt, lit< tt), refl, refl, refl),
-          (((5, lit≤ tt, lit≤ tt, lit< tt), refl, refl, refl, (refl, refl), tt),
-          (((6, lit≤ tt, lit≤ tt, lit< tt), refl, refl, refl), (refl, ((lit≤ tt, refl), ((lit≤ tt, refl), tt)))))));
-      outcome = refl;
-      released = refl;
-      events = refl;
-    }, (record {
-      played = (((1, lit≤ tt, lit≤ tt, lit< tt), refl, refl, refl),
-          (((3, lit≤ tt, lit≤ tt, lit< tt), refl, refl, refl),
-          (((4, lit≤ tt, lit≤ tt, lit< tt), refl, refl, refl, (refl, refl), (refl, tt)), ((lit≤ tt, refl), tt))));
-      outcome = refl;
-      released = refl;
-      events = refl;
-    }, tt));
+    played = (
+      record {
+        played = (
+          ((0, lit≤ tt, lit≤ tt, lit< tt), refl, refl, refl),
+          (
+            ((2, lit≤ tt, lit≤ tt, lit< tt), refl, refl, refl),
+            (
+              ((5, lit≤ tt, lit≤ tt, lit< tt), refl, refl, refl, (refl, refl), tt),
+              (((6, lit≤ tt, lit≤ tt, lit< tt), refl, refl, refl), (refl, ((lit≤ tt, refl), ((lit≤ tt, refl), tt)))),
+            ),
+          ),
+        );
+        outcome = refl;
+        released = refl;
+        events = refl;
+      },
+      (
+        record {
+          played = (
+            ((1, lit≤ tt, lit≤ tt, lit< tt), refl, refl, refl),
+            (
+              ((3, lit≤ tt, lit≤ tt, lit< tt), refl, refl, refl),
+              (((4, lit≤ tt, lit≤ tt, lit< tt), refl, refl, refl, (refl, refl), (refl, tt)), ((lit≤ tt, refl), tt)),
+            ),
+          );
+          outcome = refl;
+          released = refl;
+          events = refl;
+        },
+        tt,
+      ),
+    );
     others = (refl, (refl, (refl, (refl, (refl, (refl, (refl, (refl, (refl, (refl, (refl, tt)))))))))));
   };
   no_run = λ run. none_some ((run.searches.0.1.1.0.1.0 two_one).listed (lit< tt));
