@@ -154,11 +154,11 @@ ended_one setting txns game turn at_rest some =
 
 -- Fewer are left in each round.
 
-open_in : Setting → Game → List ℕ → ℕ
+pub open_in : Setting → Game → List ℕ → ℕ
 open_in setting game [] = 0
 open_in setting game (n ∷ ns) = if has_ended setting n game then open_in setting game ns else 1 + open_in setting game ns
 
-open_few : (setting : Setting) (game : Game) (ns : List ℕ) → open_in setting game ns ≤ length ns
+pub open_few : (setting : Setting) (game : Game) (ns : List ℕ) → open_in setting game ns ≤ length ns
 unfolding open_in
 open_few setting game [] = omega arith
 open_few setting game (n ∷ ns) = by_test (has_ended setting n game) (open_few setting game ns)
@@ -168,10 +168,10 @@ open_few setting game (n ∷ ns) = by_test (has_ended setting n game) (open_few 
     by_test false few = omega (arith, few)
 
 -- those that had ended have
-abbrev AreStill : Setting → Game → Game → List ℕ → Type 0
+abbrev pub AreStill : Setting → Game → Game → List ℕ → Type 0
 AreStill setting old new ns = AllByRecursion (λ n. has_ended setting n old ≡ true → has_ended setting n new ≡ true) ns
 
-open_less : (setting : Setting) (old new : Game) (ns : List ℕ) → AreStill setting old new ns → open_in setting new ns ≤ open_in setting old ns
+pub open_less : (setting : Setting) (old new : Game) (ns : List ℕ) → AreStill setting old new ns → open_in setting new ns ≤ open_in setting old ns
 unfolding open_in
 open_less setting old new [] still = omega arith
 open_less setting old new (n ∷ ns) still = by_tests (has_ended setting n old) (has_ended setting n new) still.0 (open_less setting old new ns still.1)
@@ -183,7 +183,7 @@ open_less setting old new (n ∷ ns) still = by_tests (has_ended setting n old) 
     by_tests false true h rest = omega (arith, rest)
     by_tests false false h rest = omega (arith, rest)
 
-open_fewer : (setting : Setting) (old new : Game) (m : ℕ) (ns : List ℕ) → AreStill setting old new ns → is_in m ns ≡ true → has_ended setting m old ≡ false →
+pub open_fewer : (setting : Setting) (old new : Game) (m : ℕ) (ns : List ℕ) → AreStill setting old new ns → is_in m ns ≡ true → has_ended setting m old ≡ false →
     has_ended setting m new ≡ true → 1 + open_in setting new ns ≤ open_in setting old ns
 unfolding open_in
 open_fewer setting old new m [] still there before behind_it = absurd (let k : false ≡ true = there in cc)

@@ -23,6 +23,7 @@ pub mod AttemptLaws
 pub mod FollowLaws
 pub mod FitLaws
 pub mod EndLaws
+pub mod SettledLaws
 pub mod NoLockLaws
 pub mod RunLaws
 pub mod WholeLaws
