@@ -44,7 +44,7 @@ ended_moves setting txns txn =
 eq_of : (a b : ℕ) → (a == b) ≡ true → a ≡ b
 eq_of a b e = grind (arith, nat_tests)
 
-ended_takes : (setting : Setting) (txns : List ℕ) (txn : ℕ) (game : Game) (turn : Turn) (line : Line) → IsTurnOf setting txns game turn → is_some turn.outcome ≡ false →
+pub ended_takes : (setting : Setting) (txns : List ℕ) (txn : ℕ) (game : Game) (turn : Turn) (line : Line) → IsTurnOf setting txns game turn → is_some turn.outcome ≡ false →
     has_ended setting txn game ≡ true → has_ended setting txn (takes turn line game) ≡ true
 ended_takes setting txns txn game turn line of_game goes is = by_test (txn == turn.txn) refl
   where

@@ -1,17 +1,21 @@
--- Once sweeps are over, none was released since the last one began.
-use Rattle.std.proofs.Common.{◌≡◌, ℕ, suc, ◌+◌, ◌≤◌, List, [], ◌∷◌, Bool, true, false, if◌then◌else◌, is_some, length, refl, sym, ap, subst, ◌∙◌, arith}
-use Rattle.std.specs.List.{fold}
+-- Once sweeps are over, none was released since the last one began: so it is between two steps.
+use Rattle.std.proofs.Common.{◌≡◌, ℕ, suc, ◌+◌, ◌≤◌, List, [], ◌∷◌, ◌++◌, Option, Some, None, nat_cmp, Bool, true, false, if◌then◌else◌, is_some, length, refl, sym, ap, subst, ◌∙◌, arith}
+use Rattle.std.specs.List.{fold, find}
+use Rattle.std.specs.List.Sorted.{IsStrictlySortedBy}
 use Rattle.lt_ranges.specs.Numbers.{is_in}
 use Rattle.lt_seq.specs.Table.{Setting}
 use Rattle.lt_trace.specs.declared.line.Line.{Line}
 use Rattle.lt_runner.specs.TurnView.{Turn}
-use Rattle.lt_runner.specs.Serial.{Game, turn_of, is_waiting, is_ready, line_move, does, settles, plays_line, plays_next, plays_on, retried, swept, swept_if_released, settled}
-use Rattle.lt_runner.specs.Steps.{IsSteady, IsInOrder, IsAtLine}
+use Rattle.lt_runner.specs.Plays.{end_of}
+use Rattle.lt_runner.specs.Serial.{Game, turn_of, is_waiting, is_ready, line_move, does, settles, plays_line, plays_next, plays_on, retried, swept, swept_if_released, settled, added}
+use Rattle.lt_runner.specs.Serial.{takes_line, ends_first, ends_one}
+use Rattle.lt_runner.specs.Steps.{IsFitLine, IsSteady, IsInOrder, IsTurnOf, IsAtLine, IsFit, takes}
 use Rattle.lt_runner.proofs.ChoiceLaws.{on_false}
-use Rattle.lt_runner.proofs.SteadyLaws.{turn_has, ready_goes, waits_goes, never}
-use Rattle.lt_runner.proofs.MoveLaws.{Holds, AnyOne, AreOf, are_of, the_turn, holds_plays, holds_settles, holds_line, holds_next, holds_retried, holds_swept_if}
-use Rattle.lt_runner.proofs.IdleLaws.{keeps_nothing, keeps_ended}
-use Rattle.lt_runner.proofs.EndLaws.{has_ended, open_in, open_less, open_fewer, AreStill}
+use Rattle.lt_runner.proofs.SteadyLaws.{turn_of_txn, turn_of_with, turn_has, steady_taking, ready_goes, waits_goes, never}
+use Rattle.lt_runner.proofs.MoveLaws.{Holds, AnyOne, AreOf, are_of, the_turn, in_order_with, holds_plays, holds_settles, holds_line, holds_next, holds_retried, holds_swept_if}
+use Rattle.lt_runner.proofs.IdleLaws.{AreAtRest, keeps_nothing, keeps_ended, rest_added, rest_swept}
+use Rattle.lt_runner.proofs.StepLaws.{found_ready}
+use Rattle.lt_runner.proofs.EndLaws.{has_ended, ended_takes, open_in, open_few, open_less, open_fewer, AreStill}
 
 ordered : (setting : Setting) (txns : List ℕ) (game : Game) → IsInOrder setting txns game → Holds setting txns (λ game. Unit {0}) game
 ordered setting txns game order = record { order = order; is = tt }
@@ -178,3 +182,60 @@ settled_rests setting txns game order some = by_flag (settled setting txns game)
     by_flag : (b : Bool) → (settled setting txns game).released ≡ b → (settled setting txns game).released ≡ false
     by_flag true e = by_first game.released refl e
     by_flag false e = e
+
+-- Steps.
+
+still_takes : (setting : Setting) (txns ns : List ℕ) (game : Game) (turn : Turn) (line : Line) → IsTurnOf setting txns game turn → is_some turn.outcome ≡ false →
+    AreStill setting game (takes turn line game) ns
+still_takes setting txns [] game turn line of_game goes = tt
+still_takes setting txns (n ∷ ns) game turn line of_game goes = ((λ is. ended_takes setting txns n game turn line of_game goes is), still_takes setting txns ns game turn line of_game goes)
+
+-- a line that is played where none was released
+progress_added : (setting : Setting) (txns : List ℕ) (game : Game) (turn : Turn) (line : Line) → IsTurnOf setting txns game turn → IsFitLine setting turn.txn line →
+    game.released ≡ false → Progress setting txns game (added setting line turn game)
+progress_added setting txns game turn line of_game fits free = by_outcome (is_some turn.outcome) refl
+  where
+    new : Turn
+    new = record turn { lines = turn.lines ++ line ∷ [] }
+    next : Game
+    next = takes turn line game
+    there : turn_of setting turn.txn next.turns ≡ new
+    there = turn_of_with setting new game.turns (ap (is_in turn.txn) of_game.order.numbers ∙ of_game.number)
+    steady : IsSteady setting turn
+    steady = turn_has (IsSteady setting) setting txns game turn of_game of_game.order.steady
+    taken : is_some turn.outcome ≡ false → Progress setting txns game next
+    taken goes = record { fewer = λ marked. never game.released free marked; still = still_takes setting txns txns game turn line of_game goes }
+    by_waiting : (b : Bool) → is_some turn.outcome ≡ false → Progress setting txns game (if b then next else plays_next setting turn.txn next)
+    by_waiting true goes = taken goes
+    by_waiting false goes =
+        progress_next setting txns game turn.txn next of_game.number (in_order_with setting txns game.events game.released game new of_game.order (steady_taking setting turn line goes fits steady))
+        (ap (λ (t : Turn). is_some t.outcome) there ∙ goes) (taken goes)
+    by_outcome : (b : Bool) → is_some turn.outcome ≡ b → Progress setting txns game (if b then game else if is_waiting turn then next else plays_next setting turn.txn next)
+    by_outcome true ended = record { fewer = λ marked. never game.released free marked; still = still_itself setting game txns }
+    by_outcome false goes = by_waiting (is_waiting turn) goes
+
+-- Between two steps none was released since the last sweep began.
+unreleased : (setting : Setting) (txns : List ℕ) (old game : Game) → IsInOrder setting txns game → Progress setting txns old game → (settled setting txns game).released ≡ false
+unreleased setting txns old game order so_far = settled_rests setting txns game order (λ marked. omega (arith, so_far.fewer marked, open_few setting old txns))
+
+pub unreleased_taken : (setting : Setting) (txns : List ℕ) (line : Line) (game : Game) → IsFit setting txns line → AreAtRest setting txns game → game.released ≡ false →
+    (takes_line setting txns game line).released ≡ false
+unreleased_taken setting txns line game fit at_rest free =
+    let turn = turn_of setting line.txn game.turns in
+    let of_game = the_turn setting txns line.txn game fit.number at_rest.order in
+    let own : line.txn ≡ turn.txn = sym (turn_of_txn setting line.txn game.turns (ap (is_in line.txn) at_rest.order.numbers ∙ fit.number)) in
+    let fits : IsFitLine setting turn.txn line = record { own = own; deed = fit.deed } in
+    unreleased setting txns game (added setting line turn game) (rest_added setting txns game turn line of_game fits at_rest).order (progress_added setting txns game turn line of_game fits free)
+
+pub unreleased_ends : (setting : Setting) (txns : List ℕ) (game : Game) → AreAtRest setting txns game → game.released ≡ false → (ends_one setting txns game).released ≡ false
+unreleased_ends setting txns game at_rest free = by_found (find is_ready game.turns) refl
+  where
+    by_found : (found : Option Turn) → find is_ready game.turns ≡ found → (settled setting txns (ends_first setting txns found game)).released ≡ false
+    by_found None none = unreleased setting txns game (swept setting txns game) (rest_swept setting txns game at_rest).order (progress_swept setting txns game at_rest.order)
+    by_found (Some turn) some =
+        let order = at_rest.order in
+        let found = found_ready setting game.turns turn (subst (IsStrictlySortedBy nat_cmp) (sym order.numbers) order.sorted) some in
+        let of_game : IsTurnOf setting txns game turn = record { order = order; number = sym (ap (is_in turn.txn) order.numbers) ∙ found.number; there = found.there } in
+        let fits : IsFitLine setting turn.txn (end_of turn.txn) = record { own = refl; deed = tt } in
+        unreleased setting txns game (added setting (end_of turn.txn) turn game) (rest_added setting txns game turn (end_of turn.txn) of_game fits at_rest).order
+        (progress_added setting txns game turn (end_of turn.txn) of_game fits free)
