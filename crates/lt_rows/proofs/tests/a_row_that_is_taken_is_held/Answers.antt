@@ -1,5 +1,4 @@
-use Rattle.std.proofs.Common.{arith, ◌<◌, ◌≤◌}
-use Rattle.lt_rows.specs.Views.{rows_of}
+use Rattle.std.proofs.Common.{arith}
 use Rattle.lt_rows.proofs.Opens.{some_rows}
 use Rattle.lt_rows.proofs.tests.a_row_that_is_taken_is_held.Goals as goal
 
