@@ -14,7 +14,8 @@ use Rattle.lt_forest.specs.Forest.{ChangesOnly, KeepsModes}
 use Rattle.lt_forest.specs.Plans.{MovesPool}
 use Rattle.lt_forest.specs.Buffers.{Begins, Appends, Ends, Drops}
 use Rattle.lt_forest.specs.Openings.{IsOpening}
-use Rattle.lt_forest.specs.WorkedTrees.{at, holds, leads, tree_modes}
+use Rattle.lt_ranges.specs.Short.{at}
+use Rattle.lt_forest.specs.WorkedTrees.{holds, leads, tree_modes}
 use Rattle.lt_forest.specs.WorkedBuffer.{with_buffer, modes_of, none, one, two, dropped, ended, WorkedBuffer}
 use Rattle.lt_forest.proofs.Openings.{opens}
 use Rattle.lt_forest.proofs.BufferLaws as laws

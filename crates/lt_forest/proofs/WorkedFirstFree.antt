@@ -15,7 +15,8 @@ use Rattle.lt_forest.specs.Trees.{Node}
 use Rattle.lt_forest.specs.Cuts.{Cut, end, held}
 use Rattle.lt_forest.specs.Plans.{Top, from_row, IsClosedFor, ShowsDeed}
 use Rattle.lt_forest.specs.Views.{IsIn, IsView, PlansModes, from_pool, PlanLays}
-use Rattle.lt_forest.specs.WorkedTrees.{at, holds, leads, four, four_forest, with_images, one_buffer, modes_at, low_state, low_events, WorkedFirstFree}
+use Rattle.lt_ranges.specs.Short.{at}
+use Rattle.lt_forest.specs.WorkedTrees.{holds, leads, four, four_forest, with_images, one_buffer, modes_at, low_state, low_events, WorkedFirstFree}
 use Rattle.lt_forest.proofs.WorkedTrees.{images_only, only_zero, four_at}
 use Rattle.lt_forest.proofs.PublicLaws.{plan_serves_deed}
 

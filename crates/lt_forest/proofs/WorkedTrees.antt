@@ -22,7 +22,8 @@ use Rattle.lt_forest.specs.Cuts.{Cut, end, held, Shows}
 use Rattle.lt_forest.specs.Widenings.{Widens}
 use Rattle.lt_forest.specs.Forest.{search_tree, Represents, stands, IsForest, ChangesOnly}
 use Rattle.lt_forest.specs.Plans.{Top, from_anchor, from_row, IsInGap, IsPart, IsClosedFor, Lays, ShowsDeed}
-use Rattle.lt_forest.specs.WorkedTrees.{from_to, at, pair, holds, leads, one_tree, four, four_tree, four_forest, tree_modes, four_state, four_events, with_images, insertion_images, five, five_state, modes_at, table_at, WorkedStart, WorkedInsertion, WorkedMerge, WorkedRemoval, WorkedJoin, WorkedQuestion, WorkedRotation, WorkedReplacement}
+use Rattle.lt_ranges.specs.Short.{from_to, at}
+use Rattle.lt_forest.specs.WorkedTrees.{pair, holds, leads, one_tree, four, four_tree, four_forest, tree_modes, four_state, four_events, with_images, insertion_images, five, five_state, modes_at, table_at, WorkedStart, WorkedInsertion, WorkedMerge, WorkedRemoval, WorkedJoin, WorkedQuestion, WorkedRotation, WorkedReplacement}
 use Rattle.lt_forest.proofs.VisitLaws.{visited_closed}
 use Rattle.lt_forest.proofs.WidenLaws.{widens}
 use Rattle.lt_forest.proofs.RowsAndHangs.{order_ends, order_rows, order_pairs}

@@ -11,7 +11,8 @@ use Rattle.lt_seq.specs.Table.{Setting, TreeState, tree_at, replied}
 use Rattle.lt_forest.specs.Trees.{Nodes}
 use Rattle.lt_forest.specs.Forest.{NoRow, Becomes}
 use Rattle.lt_forest.specs.Openings.{IsOpening, opening_forest}
-use Rattle.lt_forest.specs.WorkedTrees.{at, pair, holds, leads, nodes_in, tree_modes, with_images}
+use Rattle.lt_ranges.specs.Short.{at}
+use Rattle.lt_forest.specs.WorkedTrees.{pair, holds, leads, nodes_in, tree_modes, with_images}
 
 abbrev pub with_buffer : Setting
 with_buffer = record { plan = record { trees = 1; limit = 3; buffer = 4; passes = 1; first = 0 }; marks = [] }

@@ -2,6 +2,7 @@
 -- transaction 2 holds "x".
 use Rattle.std.specs.Prelude.{◌≡◌, ℕ, List, [], ◌∷◌, codes, true, slice_index_or, nat_eq, if◌then◌else◌, Some, None}
 use Rattle.lt_ranges.specs.declared.key.Key.TheVariants.{Bytes}
+use Rattle.lt_ranges.specs.Short.{from_to, at}
 use Rattle.lt_ranges.specs.Interval.{Interval, whole}
 use Rattle.lt_seq.specs.declared.event.Pair.{Pair}
 use Rattle.lt_seq.specs.declared.event.Mode.{Mode}
@@ -17,13 +18,6 @@ use Rattle.lt_forest.specs.Cuts.{Cut, end, held}
 use Rattle.lt_forest.specs.Forest.{Forest, search_tree, IsForest}
 use Rattle.lt_forest.specs.Widenings.{Widens}
 use Rattle.lt_forest.specs.Plans.{Top, from_anchor, from_row, Relaid, ReplacedPart}
-
--- the range from one text to another, and that of one text alone
-abbrev pub from_to : List ℕ → List ℕ → Interval
-from_to a b = record { left = Bytes a; right = Bytes b }
-
-abbrev pub at : List ℕ → Interval
-at a = from_to a a
 
 abbrev pub pair : ℕ → Interval → Pair
 pair owner range = record { owner = owner; range = range }

@@ -2,6 +2,7 @@
 use Rattle.std.specs.Prelude.{◌≡◌, ℕ, List, [], ◌∷◌, ◌++◌, codes, fold, length, map, true, false}
 use Rattle.lt_ranges.specs.declared.key.Key.{Key}
 use Rattle.lt_ranges.specs.declared.key.Key.TheVariants.{Below, Bytes, After, Above}
+use Rattle.lt_ranges.specs.Short.{between, from_to, at}
 use Rattle.lt_ranges.specs.Interval.{Interval}
 use Rattle.lt_seq.specs.declared.event.Deed.{Deed}
 use Rattle.lt_seq.specs.declared.event.Deed.TheVariants.{Ask, Free, Who, Join}
@@ -14,15 +15,6 @@ use Rattle.lt_seq.specs.History.{after}
 use Rattle.lt_seq.specs.Yard.{event_after}
 use Rattle.lt_seq.specs.Questions.{all_receipts}
 use Rattle.lt_history.specs.Text.{text}
-
-abbrev pub between : Key → Key → Interval
-between left right = record { left = left; right = right }
-
-abbrev pub from_to : List ℕ → List ℕ → Interval
-from_to left right = between (Bytes left) (Bytes right)
-
-abbrev pub at : List ℕ → Interval
-at key = from_to key key
 
 abbrev pub all : Interval
 all = between Below Above

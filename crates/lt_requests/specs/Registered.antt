@@ -1,5 +1,6 @@
 -- The wishes of the transactions that wait, by ascending transaction.
-use Rattle.std.specs.Prelude.{◌≡◌, ℕ, ◌≤◌, ◌<◌, List, [], ◌∷◌, length, map, filter, find, ◌==◌, nat_lt, not, Bool, ◌&&◌, if◌then◌else◌, slice_index_or, Option, Some, None, true, false, insert, remove}
+use Rattle.std.specs.Prelude.{◌≡◌, ℕ, ◌≤◌, ◌<◌, List, [], ◌∷◌, length, map, filter, find, ◌==◌}
+use Rattle.std.specs.Prelude.{nat_lt, not, Bool, ◌&&◌, if◌then◌else◌, slice_index_or, Option, Some, None, true, false, insert, remove}
 use Rattle.std.specs.List.{list_all}
 use Rattle.std.specs.List.Sorted.{IsStrictlyIncreasing}
 use Rattle.lt_ranges.specs.Numbers.{is_in}

@@ -236,8 +236,8 @@ down_step {c = c} {rows = rows} {top = top} {number = number} {link = link} {bef
         let ahead : walk.seen ++ (in_order a ++ behind (walk.waiting ++ new ∷ [])) ≡ in_order walk.whole =
         ap (λ l. walk.seen ++ (in_order a ++ l)) (behind-more walk.waiting new) ∙ (ap (λ l. walk.seen ++ l) here ∙ order) in
         let below = below_right rows (in_order a) ((row ∷ in_order b) ++ behind walk.waiting)
-            (below_right rows walk.seen (in_order a ++ ((row ∷ in_order b) ++ behind walk.waiting))
-            (subst (AllBelow rows) (sym (ap (λ l. walk.seen ++ l) here ∙ order)) walk.whole_rows.below)) in
+        (below_right rows walk.seen (in_order a ++ ((row ∷ in_order b) ++ behind walk.waiting))
+        (subst (AllBelow rows) (sym (ap (λ l. walk.seen ++ l) here ∙ order)) walk.whole_rows.below)) in
         record {
           below = below.0;
           room = tree_room walk (inl some);
@@ -282,7 +282,7 @@ up_step {c = c} {rows = rows} {top = top} {number = number} {link = link} {befor
         let ahead : (walk.seen ++ row ∷ []) ++ (in_order b ++ behind n.others) ≡ in_order walk.whole =
         append_assoc walk.seen (row ∷ []) (in_order b ++ behind n.others) ∙ (ap (λ l. walk.seen ++ l) (sym here) ∙ order) in
         let below = below_right rows walk.seen (row ∷ (in_order b ++ behind n.others))
-            (subst (AllBelow rows) (sym (ap (λ l. walk.seen ++ l) (sym here) ∙ order)) walk.whole_rows.below) in
+        (subst (AllBelow rows) (sym (ap (λ l. walk.seen ++ l) (sym here) ∙ order)) walk.whole_rows.below) in
         record {
           below = below.0;
           room = tree_room walk (inr some_above);

@@ -138,7 +138,7 @@ moves_asked setting txn number recorded tree range turns events released joins t
     let reply = reply_in ask.event.deed in
     let new = answered_by tree range reply old in
     ap (λ es. settles setting (turn_of setting txn (with_turn new (with_turn old turns))) (game_at es (with_turn new (with_turn old turns)) released))
-        (ap (λ es. events ++ es) (map-append (λ (r : Receipt). r.event) joins (ask ∷ [])) ∙ sym (append_assoc events (events_of joins) (ask.event ∷ [])))
+    (ap (λ es. events ++ es) (map-append (λ (r : Receipt). r.event) joins (ask ∷ [])) ∙ sym (append_assoc events (events_of joins) (ask.event ∷ [])))
     ∙ settles_there setting txn old new turns (later ++ ask.event ∷ []) released there refl (answered_txn tree range reply old)
     ∙ settles_answered setting txn recorded line tree range turns (later ++ ask.event ∷ []) released reply
 
@@ -284,7 +284,7 @@ keeps_by_room setting txn recorded events tree range quiet inside false true =
 keeps_by_room setting txn recorded events tree range quiet inside false false =
     let later = joined_events setting txn events in
     keeps_later setting events later (open_turn txn recorded) (ended_by setting (OutOfLocks (place_after setting later) (used (after setting later))) (step_at later (open_turn txn recorded))) 3 setting.plan.trees (length_joined setting txn events)
-        (keeps_ended setting txn recorded later (OutOfLocks (place_after setting later) (used (after setting later))) 3 quiet)
+    (keeps_ended setting txn recorded later (OutOfLocks (place_after setting later) (used (after setting later))) 3 quiet)
 
 keeps_open : (setting : Setting) (txn : ℕ) (recorded : List Recorded) (events : List Event) (deed : LineDeed) → IsQuiet setting (open_turn txn recorded) → IsPlain setting deed →
     Keeps setting (gain_of setting deed) (step_at events (open_turn txn recorded)) (lined setting deed (step_at events (open_turn txn recorded)))

@@ -59,16 +59,22 @@ progress_line setting txns old txn (line ∷ lines) game number order goes same 
   where
     turn : Turn
     turn = turn_of setting txn game.turns
+
     next : Game
     next = does setting turn (line_move setting game turn line.deed) game
+
     last : Game
     last = plays_line setting txn (line ∷ lines) game
+
     stays : AreStill setting game last txns
     stays = still_line setting txns txns txn (line ∷ lines) game number order goes same
+
     at : IsAtLine setting txns game turn line lines
     at = record { of_game = the_turn setting txns txn game number order; goes = goes; next = same }
+
     onward : IsInOrder setting txns next
     onward = (holds_plays setting txns AnyOne (λ g. Unit {0}) game turn line lines (keeps_nothing setting txns) at tt tt).order
+
     by_outcome : (b : Bool) → is_some (turn_of setting txn next.turns).outcome ≡ b → last.released ≡ true → 1 + open_in setting last txns ≤ open_in setting old txns
     by_outcome true ended marked =
         let over = (holds_settles setting txns AnyOne (λ g. has_ended setting txn g ≡ true) txn next (keeps_ended setting txns txn) tt number (record { order = onward; is = ended })).is in
@@ -92,14 +98,15 @@ progress_on setting txns old txn (line ∷ lines) game number order so_far =
   where
     turn : Turn
     turn = turn_of setting txn game.turns
+
     by_test : (b : Bool) → is_ready turn ≡ b →
         (IsInOrder setting txns (plays_next setting txn game) → Progress setting txns old (plays_next setting txn game) →
-            Progress setting txns old (plays_on setting txn lines (plays_next setting txn game))) →
+        Progress setting txns old (plays_on setting txn lines (plays_next setting txn game))) →
         Progress setting txns old (if b then plays_on setting txn lines (plays_next setting txn game) else game)
     by_test true ready on =
         let goes = ready_goes turn ready in
         on (holds_next setting txns AnyOne (λ g. Unit {0}) txn game (keeps_nothing setting txns) tt number (ordered setting txns game order) goes).order
-            (progress_next setting txns old txn game number order goes so_far)
+        (progress_next setting txns old txn game number order goes so_far)
     by_test false waiting on = so_far
 
 progress_retried : (setting : Setting) (txns : List ℕ) (old game : Game) (txn : ℕ) → is_in txn txns ≡ true → IsInOrder setting txns game →
@@ -108,13 +115,14 @@ progress_retried setting txns old game txn number order so_far = by_test (is_wai
   where
     turn : Turn
     turn = turn_of setting txn game.turns
+
     by_test : (b : Bool) → is_waiting turn ≡ b →
         Progress setting txns old (if b then (let next = plays_next setting txn game in plays_on setting txn (turn_of setting txn next.turns).lines next) else game)
     by_test true held =
         let goes = waits_goes setting turn (turn_has (IsSteady setting) setting txns game turn (the_turn setting txns txn game number order) order.steady) held in
         progress_on setting txns old txn (turn_of setting txn (plays_next setting txn game).turns).lines (plays_next setting txn game) number
         (holds_next setting txns AnyOne (λ g. Unit {0}) txn game (keeps_nothing setting txns) tt number (ordered setting txns game order) goes).order
-            (progress_next setting txns old txn game number order goes so_far)
+        (progress_next setting txns old txn game number order goes so_far)
     by_test false free = so_far
 
 progress_round : (setting : Setting) (txns left : List ℕ) (old game : Game) → AreOf txns left → IsInOrder setting txns game → Progress setting txns old game →
@@ -122,7 +130,7 @@ progress_round : (setting : Setting) (txns left : List ℕ) (old game : Game) �
 progress_round setting txns [] old game all order so_far = so_far
 progress_round setting txns (txn ∷ left) old game all order so_far =
     progress_round setting txns left old (retried setting game txn) all.1
-        (holds_retried setting txns AnyOne (λ g. Unit {0}) game txn (keeps_nothing setting txns) tt all.0 (ordered setting txns game order)).order
+    (holds_retried setting txns AnyOne (λ g. Unit {0}) game txn (keeps_nothing setting txns) tt all.0 (ordered setting txns game order)).order
     (progress_retried setting txns old game txn all.0 order so_far)
 
 -- a sweep behind which one was released has ended one
@@ -147,7 +155,7 @@ sweep_if setting txns game order = by_test game.released refl
 swept_order : (setting : Setting) (txns : List ℕ) (game : Game) → IsInOrder setting txns game → IsInOrder setting txns (swept_if_released setting txns game)
 swept_order setting txns game order =
     (holds_swept_if setting txns (λ g. Unit {0}) game (record { plays = λ g turn line lines at is. tt; gives = λ g turn r rs at is. tt; marks = λ g released is. tt })
-        (ordered setting txns game order)).order
+    (ordered setting txns game order)).order
 
 sweeps : (setting : Setting) (txns left : List ℕ) (game : Game) → IsInOrder setting txns game →
     Sweeps setting txns (length left) game (fold (λ g (txn : ℕ). swept_if_released setting txns g) game left)
@@ -176,9 +184,11 @@ settled_rests setting txns game order some = by_flag (settled setting txns game)
   where
     all : Sweeps setting txns (length txns) game (settled setting txns game)
     all = sweeps setting txns txns game order
+
     by_first : (b : Bool) → game.released ≡ b → (settled setting txns game).released ≡ true → (settled setting txns game).released ≡ false
     by_first true e marked = absurd (omega (arith, some e, all.fewer marked))
     by_first false e marked = ap (λ (g : Game). g.released) (all.rested e) ∙ e
+
     by_flag : (b : Bool) → (settled setting txns game).released ≡ b → (settled setting txns game).released ≡ false
     by_flag true e = by_first game.released refl e
     by_flag false e = e
@@ -197,19 +207,25 @@ progress_added setting txns game turn line of_game fits free = by_outcome (is_so
   where
     new : Turn
     new = record turn { lines = turn.lines ++ line ∷ [] }
+
     next : Game
     next = takes turn line game
+
     there : turn_of setting turn.txn next.turns ≡ new
     there = turn_of_with setting new game.turns (ap (is_in turn.txn) of_game.order.numbers ∙ of_game.number)
+
     steady : IsSteady setting turn
     steady = turn_has (IsSteady setting) setting txns game turn of_game of_game.order.steady
+
     taken : is_some turn.outcome ≡ false → Progress setting txns game next
     taken goes = record { fewer = λ marked. never game.released free marked; still = still_takes setting txns txns game turn line of_game goes }
+
     by_waiting : (b : Bool) → is_some turn.outcome ≡ false → Progress setting txns game (if b then next else plays_next setting turn.txn next)
     by_waiting true goes = taken goes
     by_waiting false goes =
         progress_next setting txns game turn.txn next of_game.number (in_order_with setting txns game.events game.released game new of_game.order (steady_taking setting turn line goes fits steady))
         (ap (λ (t : Turn). is_some t.outcome) there ∙ goes) (taken goes)
+
     by_outcome : (b : Bool) → is_some turn.outcome ≡ b → Progress setting txns game (if b then game else if is_waiting turn then next else plays_next setting turn.txn next)
     by_outcome true ended = record { fewer = λ marked. never game.released free marked; still = still_itself setting game txns }
     by_outcome false goes = by_waiting (is_waiting turn) goes

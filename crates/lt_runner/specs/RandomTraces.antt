@@ -2,21 +2,13 @@
 use Rattle.std.specs.Prelude.{◌≡◌, ℕ, List, [], ◌∷◌, ◌++◌, codes}
 use Rattle.lt_ranges.specs.declared.key.Key.{Key}
 use Rattle.lt_ranges.specs.declared.key.Key.TheVariants.{Below, Bytes, After, Above}
+use Rattle.lt_ranges.specs.Short.{between, from_to, at}
 use Rattle.lt_ranges.specs.Interval.{Interval}
 use Rattle.lt_trace.specs.declared.line.Line.{Line}
 use Rattle.lt_trace.specs.declared.line.LineDeed.TheVariants.{Try, Lock, End, Abort, Escalate, Big}
 use Rattle.lt_trace.specs.Trace.{TraceView}
 use Rattle.lt_runner.specs.Rows.{line}
 use Rattle.lt_runner.specs.Serial.{serial, ran_text}
-
-abbrev pub between : Key → Key → Interval
-between left right = record { left = left; right = right }
-
-abbrev pub from_to : List ℕ → List ℕ → Interval
-from_to left right = between (Bytes left) (Bytes right)
-
-abbrev pub at : List ℕ → Interval
-at key = from_to key key
 
 -- a trace of this version, with so many trees, this limit and this buffer
 abbrev pub trace : ℕ → ℕ → ℕ → ℕ → List Line → TraceView

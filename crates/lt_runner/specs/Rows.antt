@@ -1,15 +1,11 @@
 -- Worked examples.
 use Rattle.std.specs.Prelude.{◌≡◌, ℕ, List, [], ◌∷◌, codes}
-use Rattle.lt_ranges.specs.declared.key.Key.TheVariants.{Bytes}
-use Rattle.lt_ranges.specs.Interval.{Interval}
+use Rattle.lt_ranges.specs.Short.{letters}
 use Rattle.lt_trace.specs.declared.line.Line.{Line}
 use Rattle.lt_trace.specs.declared.line.LineDeed.{LineDeed}
 use Rattle.lt_trace.specs.declared.line.LineDeed.TheVariants.{Try, Lock, End, Abort, Escalate}
 use Rattle.lt_trace.specs.Trace.{TraceView}
 use Rattle.lt_runner.specs.Serial.{serial, ran_text}
-
-abbrev pub from_to : ℕ → ℕ → Interval
-from_to a b = record { left = Bytes (a ∷ []); right = Bytes (b ∷ []) }
 
 abbrev pub line : ℕ → LineDeed → Line
 line txn deed = record { txn = txn; number = 0; deed = deed }
@@ -18,34 +14,44 @@ abbrev pub with_limit : ℕ → List Line → TraceView
 with_limit limit lines = record { version = 1; trees = 1; limit = limit; buffer = 0; lines = lines }
 
 abbrev pub smallest : TraceView
-smallest = with_limit 64 (line 1 (Try 0 (from_to 97 99)) ∷ line 1 End ∷ [])
+smallest = with_limit 64 (line 1 (Try 0 (letters 97 99)) ∷ line 1 End ∷ [])
 
 abbrev pub shared_end : TraceView
-shared_end = with_limit 64 (line 1 (Try 0 (from_to 97 99)) ∷ line 2 (Try 0 (from_to 99 101)) ∷ [])
+shared_end = with_limit 64 (line 1 (Try 0 (letters 97 99)) ∷ line 2 (Try 0 (letters 99 101)) ∷ [])
 
 abbrev pub deadlock : TraceView
-deadlock = with_limit 64 (line 1 (Lock 0 (from_to 97 97)) ∷ line 2 (Lock 0 (from_to 98 98)) ∷ line 1 (Lock 0 (from_to 98 98)) ∷ line 2 (Lock 0 (from_to 97 97)) ∷ [])
+deadlock =
+    with_limit 64 (line 1 (Lock 0 (letters 97 97)) ∷ line 2 (Lock 0 (letters 98 98)) ∷ line 1 (Lock 0 (letters 98 98))
+    ∷ line 2 (Lock 0 (letters 97 97)) ∷ [])
 
 abbrev pub put_off : TraceView
-put_off = with_limit 64 (line 1 (Lock 0 (from_to 97 97)) ∷ line 2 (Lock 0 (from_to 97 99)) ∷ line 2 (Try 0 (from_to 120 120)) ∷ line 1 End ∷ [])
+put_off = with_limit 64 (line 1 (Lock 0 (letters 97 97)) ∷ line 2 (Lock 0 (letters 97 99)) ∷ line 2 (Try 0 (letters 120 120)) ∷ line 1 End ∷ [])
 
 abbrev pub one_row : TraceView
-one_row = with_limit 1 (line 1 (Try 0 (from_to 97 97)) ∷ line 2 (Try 0 (from_to 99 99)) ∷ [])
+one_row = with_limit 1 (line 1 (Try 0 (letters 97 97)) ∷ line 2 (Try 0 (letters 99 99)) ∷ [])
 
 abbrev pub aborted : TraceView
-aborted = with_limit 64 (line 1 (Lock 0 (from_to 97 97)) ∷ line 1 Abort ∷ [])
+aborted = with_limit 64 (line 1 (Lock 0 (letters 97 97)) ∷ line 1 Abort ∷ [])
 
 abbrev pub cycle_of_three : TraceView
-cycle_of_three = with_limit 64 (line 1 (Lock 0 (from_to 97 97)) ∷ line 2 (Lock 0 (from_to 98 98)) ∷ line 3 (Lock 0 (from_to 99 99)) ∷ line 1 (Lock 0 (from_to 98 98)) ∷ line 2 (Lock 0 (from_to 99 99)) ∷ line 3 (Lock 0 (from_to 97 97)) ∷ [])
+cycle_of_three =
+    with_limit 64 (line 1 (Lock 0 (letters 97 97)) ∷ line 2 (Lock 0 (letters 98 98)) ∷ line 3 (Lock 0 (letters 99 99))
+    ∷ line 1 (Lock 0 (letters 98 98)) ∷ line 2 (Lock 0 (letters 99 99)) ∷ line 3 (Lock 0 (letters 97 97)) ∷ [])
 
 abbrev pub buffered : TraceView
-buffered = record (with_limit 64 (line 1 (Lock 0 (from_to 97 97)) ∷ line 1 (Lock 0 (from_to 99 99)) ∷ line 1 End ∷ line 2 (Lock 0 (from_to 122 122)) ∷ [])) { buffer = 4 }
+buffered =
+    record (with_limit 64 (line 1 (Lock 0 (letters 97 97)) ∷ line 1 (Lock 0 (letters 99 99)) ∷ line 1 End
+    ∷ line 2 (Lock 0 (letters 122 122)) ∷ [])) { buffer = 4 }
 
 abbrev pub escalated : TraceView
-escalated = with_limit 64 (line 1 (Try 0 (from_to 97 97)) ∷ line 1 (Try 0 (from_to 99 99)) ∷ line 1 (Try 0 (from_to 101 101)) ∷ line 2 (Try 0 (from_to 103 103)) ∷ line 1 (Escalate 0) ∷ line 3 (Try 0 (from_to 100 100)) ∷ [])
+escalated =
+    with_limit 64 (line 1 (Try 0 (letters 97 97)) ∷ line 1 (Try 0 (letters 99 99)) ∷ line 1 (Try 0 (letters 101 101))
+    ∷ line 2 (Try 0 (letters 103 103)) ∷ line 1 (Escalate 0) ∷ line 3 (Try 0 (letters 100 100)) ∷ [])
 
 abbrev pub two_trees : TraceView
-two_trees = record (with_limit 2 (line 1 (Try 1 (from_to 97 97)) ∷ line 1 (Try 0 (from_to 98 98)) ∷ line 2 (Try 0 (from_to 97 97)) ∷ line 1 End ∷ [])) { trees = 2 }
+two_trees =
+    record (with_limit 2 (line 1 (Try 1 (letters 97 97)) ∷ line 1 (Try 0 (letters 98 98)) ∷ line 2 (Try 0 (letters 97 97))
+    ∷ line 1 End ∷ [])) { trees = 2 }
 
 pub record Rows : Type 0 where
   pub given_back : ran_text (serial smallest 0) ≡ codes "0 1 ask 0 \"a\" \"c\" granted\n1 1 free 0 \"a\" \"c\" 1\ntxn 1 done\nend 2 0\n"

@@ -1,5 +1,6 @@
 -- The plain scheduler: one pass plays all transactions.
-use Rattle.std.specs.Prelude.{ℕ, ◌+◌, ◌*◌, List, [], ◌∷◌, ◌++◌, map, fold, length, Option, Some, None, Bool, true, false, ◌&&◌, ◌==◌, not, nat_lt, if◌then◌else◌, is_some, is_none, option_map}
+use Rattle.std.specs.Prelude.{ℕ, ◌+◌, ◌*◌, List, [], ◌∷◌, ◌++◌, map, fold, length, Option, Some}
+use Rattle.std.specs.Prelude.{None, Bool, true, false, ◌&&◌, ◌==◌, not, nat_lt, if◌then◌else◌, is_some, is_none, option_map}
 use Rattle.std.specs.List.{filter_map, find}
 use Rattle.lt_seq.specs.declared.event.Deed.{Deed}
 use Rattle.lt_seq.specs.declared.event.Deed.TheVariants.{Ask, Free, Join}

@@ -8,8 +8,9 @@ pub loop-j-preserved : goal.loop-j-preserved
 loop-j-preserved c =
     let words = words_in c.args.self.now in
     let place = 22 * c.args.row + 1 + c.loop-j.j in
-    let long = c.loop-j.invariant.0 in
-    (length-set c.loop-j.words c.loop-j.j c.word.result ∙ long,
-    one_more_copied words c.loop-j.words (22 * c.args.row + 1) c.loop-j.j c.word.result c.loop-j.invariant.1 (omega arith)
-    (elem_below words place c.word.result c.word.ensures)
-    (sym (elem_get words place c.word.result c.word.ensures)))
+    let long = c.loop-j.invariant.0 in (
+      length-set c.loop-j.words c.loop-j.j c.word.result ∙ long,
+      one_more_copied words c.loop-j.words (22 * c.args.row + 1) c.loop-j.j c.word.result c.loop-j.invariant.1 (omega arith)
+          (elem_below words place c.word.result c.word.ensures)
+          (sym (elem_get words place c.word.result c.word.ensures)),
+    )
