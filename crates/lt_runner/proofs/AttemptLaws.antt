@@ -13,7 +13,7 @@ use Rattle.lt_seq.specs.Table.{Setting, used}
 use Rattle.lt_seq.specs.History.{after}
 use Rattle.lt_seq.specs.Yard.{place_after}
 use Rattle.lt_seq.specs.Passes.{numbers_from}
-use Rattle.lt_seq.specs.Questions.{question, receipt_after, events_of, named_by}
+use Rattle.lt_seq.specs.Questions.{receipt_after, events_of, named_by}
 use Rattle.lt_trace.specs.declared.line.Line.{Line}
 use Rattle.lt_trace.specs.declared.line.LineDeed.{LineDeed}
 use Rattle.lt_trace.specs.declared.line.LineDeed.TheVariants.{Try, Lock, End, Abort, Escalate, Big}

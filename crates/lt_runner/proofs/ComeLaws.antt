@@ -1,5 +1,5 @@
 -- What a transaction has come to stays while others act, and goes on by a move of its own.
-use Rattle.std.proofs.Common.{ℕ, List, [], ◌∷◌, ◌++◌, Bool, refl, sym, ap, subst, ◌∙◌, arith}
+use Rattle.std.proofs.Common.{ℕ, List, [], ◌∷◌, ◌++◌, Bool, sym, ap, subst, ◌∙◌, arith}
 use Rattle.lt_seq.specs.declared.event.Event.{Event}
 use Rattle.lt_seq.specs.declared.event.Receipt.{Receipt}
 use Rattle.lt_seq.specs.Table.{Setting}

@@ -10,13 +10,13 @@ use Rattle.lt_trace.specs.declared.line.Line.{Line}
 use Rattle.lt_trace.specs.declared.line.LineDeed.{LineDeed}
 use Rattle.lt_trace.specs.declared.line.LineDeed.TheVariants.{End}
 use Rattle.lt_runner.specs.TurnView.{Turn}
-use Rattle.lt_runner.specs.Turn.{ends, turn_after, ended_at}
+use Rattle.lt_runner.specs.Turn.{turn_after, ended_at}
 use Rattle.lt_runner.specs.Plays.{end_of}
 use Rattle.lt_runner.specs.Played.{IsOver}
 use Rattle.lt_runner.specs.Serial.{Game, turn_of, is_waiting, is_ready, line_move, does, plays_line, added, takes_line, ends_first, ends_one, opening_game, played}
 use Rattle.lt_runner.specs.Steps.{IsSteady, IsFit, IsInOrder, IsTurnOf, IsAtLine, KeepsMoves, KeepsSteps, takes}
 use Rattle.lt_runner.proofs.ChoiceLaws.{on_true, on_false}
-use Rattle.lt_runner.proofs.SteadyLaws.{numbers, turn_of_txn, turn_of_with, turn_of_other, turn_has, ready_goes, never, steady_taking}
+use Rattle.lt_runner.proofs.SteadyLaws.{turn_of_txn, turn_of_with, turn_of_other, turn_has, ready_goes, never, steady_taking}
 use Rattle.lt_runner.proofs.MoveLaws.{AnyOne, are_of, the_turn, turn_after_does, in_order_with, holds_plays, holds_settles, holds_settled}
 use Rattle.lt_runner.proofs.IdleLaws.{AreAtRest, keeps_nothing, keeps_ended, rest_added}
 use Rattle.lt_runner.proofs.StepLaws.{HoldsBetween, found_ready, holds_all_taken, holds_ends_one, holds_all_ended, opening_at_rest}

@@ -1,5 +1,5 @@
 -- What the plain scheduler writes is the text of a run.
-use Rattle.std.proofs.Common.{ℕ, List, [], false, map, length, refl, sym, ap, arith}
+use Rattle.std.proofs.Common.{ℕ, List, [], false, map, length, sym, ap, arith}
 use Rattle.std.specs.List.{AllByRecursion}
 use Rattle.lt_seq.specs.Table.{used}
 use Rattle.lt_seq.specs.History.{after}

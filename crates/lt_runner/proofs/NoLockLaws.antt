@@ -17,7 +17,7 @@ use Rattle.lt_runner.specs.Plays.{end_of, opening_turn}
 use Rattle.lt_runner.specs.Played.{IsAtLock}
 use Rattle.lt_runner.specs.Serial.{Game, with_turn, is_ready, line_move, opening_game}
 use Rattle.lt_runner.specs.Steps.{IsSteady, KeepsSteps}
-use Rattle.lt_runner.proofs.SteadyLaws.{all_with, all_push, turn_has, at_turn, numbers}
+use Rattle.lt_runner.proofs.SteadyLaws.{all_with, all_push, turn_has, at_turn}
 use Rattle.lt_runner.proofs.FitLaws.{IsNoLock}
 use Rattle.lt_runner.proofs.EndLaws.{IsNeverStuck}
 

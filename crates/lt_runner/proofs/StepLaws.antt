@@ -10,7 +10,7 @@ use Rattle.lt_ranges.specs.Numbers.{is_in}
 use Rattle.lt_seq.specs.Table.{Setting}
 use Rattle.lt_trace.specs.declared.line.Line.{Line}
 use Rattle.lt_runner.specs.TurnView.{Turn}
-use Rattle.lt_runner.specs.Turn.{ends, nothing_recorded}
+use Rattle.lt_runner.specs.Turn.{nothing_recorded}
 use Rattle.lt_runner.specs.Plays.{end_of, opening_turn}
 use Rattle.lt_runner.specs.Serial.{Game, turn_of, is_waiting, is_ready, plays_next, added, takes_line, ends_first, ends_one, opening_game, played}
 use Rattle.lt_runner.specs.Steps.{IsFitLine, AreRanges, IsSteady, IsInOrder, IsTurnOf, IsTaking, KeepsMoves, takes, KeepsSteps, IsFit}

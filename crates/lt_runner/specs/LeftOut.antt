@@ -10,11 +10,10 @@ use Rattle.lt_seq.specs.declared.event.Event.{Event}
 use Rattle.lt_seq.specs.declared.event.Receipt.{Receipt}
 use Rattle.lt_seq.specs.Table.{Setting}
 use Rattle.lt_trace.specs.declared.line.Line.{Line}
-use Rattle.lt_trace.specs.declared.line.LineDeed.{LineDeed}
 use Rattle.lt_trace.specs.declared.line.LineDeed.TheVariants.{Lock}
 use Rattle.lt_requests.specs.declared.wish.Wish.{Wish}
 use Rattle.lt_history.specs.declared.outcome.Outcome.TheVariants.{Done, Deadlock}
-use Rattle.lt_runner.specs.Turn.{Move, asks, waits, ends, frees}
+use Rattle.lt_runner.specs.Turn.{asks, waits, ends, frees}
 use Rattle.lt_runner.specs.Run.{Play, AreAllPlayed, IsRun}
 
 abbrev pub at : ℕ → Interval

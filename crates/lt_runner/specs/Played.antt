@@ -1,5 +1,5 @@
 -- What a transaction has done so far, while it is still played. For proofs and the contracts of a turn.
-use Rattle.std.specs.Prelude.{◌≡◌, ◌≢◌, ℕ, ◌<◌, ◌≤◌, List, [], ◌∷◌, ◌++◌, Contains, map, is_some, Bool, true, false, IsTrue, if◌then◌else◌}
+use Rattle.std.specs.Prelude.{◌≡◌, ◌≢◌, ℕ, ◌<◌, ◌≤◌, List, [], ◌∷◌, Contains, map, is_some, Bool, true, false, IsTrue, if◌then◌else◌}
 use Rattle.std.specs.List.{AllByRecursion, flat_map}
 use Rattle.lt_ranges.specs.Numbers.{is_in}
 use Rattle.lt_seq.specs.declared.event.Event.{Event}
@@ -11,7 +11,7 @@ use Rattle.lt_seq.specs.Questions.{receipts_of}
 use Rattle.lt_trace.specs.declared.line.Line.{Line}
 use Rattle.lt_trace.specs.Grammar.{txns_of}
 use Rattle.lt_requests.specs.declared.wish.Wish.{Wish}
-use Rattle.lt_runner.specs.TurnView.{Turn, Seat}
+use Rattle.lt_runner.specs.TurnView.{Seat}
 use Rattle.lt_runner.specs.Turn.{Move, leaves, asks, waits, stops, escalates, grows, ends, frees, receipts_in, turn_after}
 use Rattle.lt_runner.specs.Plays.{Past, Stage, stage_after, stage_after_all, is_lock, IsMove, ArePlayed, opening_stage, lines_for}
 use Rattle.lt_runner.specs.Run.{moves_before, IsListedRightly}

@@ -13,7 +13,7 @@ use Rattle.lt_trace.specs.declared.line.LineDeed.{LineDeed}
 use Rattle.lt_trace.specs.declared.line.LineDeed.TheVariants.{Try, Lock, End, Abort, Escalate, Big}
 use Rattle.lt_runner.specs.declared.release.Release.{Release}
 use Rattle.lt_runner.specs.TurnView.{Turn, Recorded}
-use Rattle.lt_runner.specs.Turn.{Move, frees}
+use Rattle.lt_runner.specs.Turn.{frees}
 use Rattle.lt_runner.specs.Plays.{end_of}
 use Rattle.lt_runner.specs.Played.{IsAtLock}
 use Rattle.lt_runner.specs.Serial.{Game, turn_of, with_turn, is_ready, line_move, does}
