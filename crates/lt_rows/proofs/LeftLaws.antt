@@ -6,7 +6,7 @@ use Rattle.lt_seq.specs.declared.plan.YardPlan.{YardPlan}
 use Rattle.lt_seq.specs.declared.event.Mode.{Mode}
 use Rattle.lt_seq.specs.declared.event.Mode.TheVariants.{Tree as TreeMode, Buffer}
 use Rattle.lt_seq.specs.declared.event.Held.{Held}
-use Rattle.lt_seq.specs.SeqPass.{held_in}
+use Rattle.lt_seq.specs.Table.{held_in}
 use Rattle.lt_seq.specs.Passes.{held_from}
 use Rattle.lt_seq.specs.Table.{TreeState, tree_at}
 use Rattle.lt_forest.specs.Counts.{times, total, one_if}

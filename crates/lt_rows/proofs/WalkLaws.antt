@@ -7,7 +7,7 @@ use Rattle.lt_seq.specs.declared.event.Held.{Held}
 use Rattle.std.specs.Prelude.{not}
 use Rattle.lt_seq.specs.Pairs.{granted, freed, is_own}
 use Rattle.lt_seq.specs.Sound.{AllOwn}
-use Rattle.lt_seq.specs.SeqPass.{held_in}
+use Rattle.lt_seq.specs.Table.{held_in}
 use Rattle.lt_seq.specs.Table.{TreeState, tree_at}
 use Rattle.lt_seq.specs.Passes.{held_from}
 use Rattle.lt_seq.proofs.SpanLaws.{lawful-granted}

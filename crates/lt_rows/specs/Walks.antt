@@ -4,7 +4,7 @@ use Rattle.lt_seq.specs.declared.event.Pair.{Pair}
 use Rattle.lt_seq.specs.declared.event.Held.{Held}
 use Rattle.lt_seq.specs.Pairs.{IsLawful, others}
 use Rattle.lt_seq.specs.Sound.{AllOwn}
-use Rattle.lt_seq.specs.SeqPass.{held_in}
+use Rattle.lt_seq.specs.Table.{held_in}
 use Rattle.lt_ranges.specs.Interval.{Interval}
 use Rattle.lt_forest.specs.Trees.{Tree, Nodes, LeadsTo, in_order, pair_of}
 use Rattle.lt_forest.specs.Forest.{IsChain, folded}

@@ -1,7 +1,7 @@
 //! The pairs that are left in the words of a closed table.
 ghost use Rattle.std.specs.Prelude.{◌≡◌, ◌<◌, ◌≤◌, ◌++◌, List, OnOk, IfOk};
 ghost use Rattle.lt_seq.specs.declared.plan.YardPlan.{YardPlan};
-ghost use Rattle.lt_seq.specs.SeqPass.{held_in};
+ghost use Rattle.lt_seq.specs.Table.{held_in};
 ghost use Rattle.lt_seq.specs.Passes.{held_from};
 ghost use Rattle.lt_seq.specs.Table.{TreeState, tree_at};
 ghost use Rattle.lt_forest.specs.Trees.{Tree, LeadsTo, pairs_in};

@@ -1,5 +1,5 @@
 use Rattle.std.proofs.Common.{◌≡◌, ◌≢◌, ap, subst, ◌∙◌, sym, ◌++◌}
-use Rattle.lt_seq.specs.SeqPass.{held_in}
+use Rattle.lt_seq.specs.Table.{held_in}
 use Rattle.lt_forest.specs.Forest.{IsChain, folded}
 use Rattle.lt_forest.specs.Trees.{LeadsTo, pairs_in, Tree}
 use Rattle.lt_rows.specs.Nodes.{node_of}
