@@ -3,10 +3,10 @@
 #![tactic(auto)]
 
 pub mod laws;
-pub mod layout;
-pub mod part;
-pub mod rotation;
-pub mod search;
+mod layout;
+mod part;
+mod rotation;
+mod search;
 pub mod worked;
 
 pub use layout::{Layout, lay_out};

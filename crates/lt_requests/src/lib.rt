@@ -1,9 +1,9 @@
 //! Transactions that wait, and the search for deadlocks.
 #![tactic(auto)]
 
-pub mod cycle;
-pub mod registry;
-pub mod wish;
+mod cycle;
+mod registry;
+mod wish;
 
 pub use cycle::{Cycle, Edge};
 pub use registry::Registry;

@@ -8,8 +8,7 @@ ghost use Rattle.lt_runner.specs.AtOnce.{IsAlone, HasPlaces};
 
 use crate::release::Release;
 use lt_ranges::KeyRange;
-use lt_seq::yard::{Pass, Yard};
-use lt_seq::{Fault, Receipt};
+use lt_seq::{Fault, Pass, Receipt, Yard};
 use std::alloc::AllocError;
 
 /// Asks for a range.

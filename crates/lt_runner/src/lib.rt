@@ -4,9 +4,9 @@
 mod calls;
 pub mod laws;
 mod play;
-pub mod release;
-pub mod serial;
-pub mod transcript;
+mod release;
+mod serial;
+mod transcript;
 mod turn;
 mod turns;
 

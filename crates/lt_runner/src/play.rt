@@ -10,8 +10,7 @@ use crate::release::Release;
 use crate::turn::{Recorded, Turn};
 use lt_history::Outcome;
 use lt_ranges::KeyRange;
-use lt_seq::yard::{Pass, Yard};
-use lt_seq::{Deed, Fault, Reply};
+use lt_seq::{Deed, Fault, Pass, Reply, Yard};
 use lt_trace::LineDeed;
 use std::alloc::AllocError;
 

@@ -10,8 +10,7 @@ ghost use Rattle.lt_runner.specs.AtOnce.{IsAlone, AreQuiet, AreOpening, IsOfTrac
 use crate::transcript::Transcript;
 use crate::turn::Turn;
 use crate::{play, turns};
-use lt_seq::YardPlan;
-use lt_seq::yard::{Closed, Pass, Yard};
+use lt_seq::{Closed, Pass, Yard, YardPlan};
 use lt_trace::{Line, LineDeed, Trace};
 use std::alloc::{AllocError, Global};
 

@@ -1,20 +1,20 @@
 //! The lock table as one sequential object.
 #![tactic(auto)]
 
-pub mod event;
-pub mod fault;
+mod event;
+mod fault;
 pub mod laws;
-pub mod lists;
-pub(crate) mod pairs;
-pub mod plan;
-pub mod runs;
-pub(crate) mod seq_calls;
-pub mod seq_note;
-pub mod seq_pass;
-pub(crate) mod seq_tree;
-pub(crate) mod seq_trees;
-pub mod seq_yard;
-pub mod yard;
+mod lists;
+mod pairs;
+mod plan;
+mod runs;
+mod seq_calls;
+mod seq_note;
+mod seq_pass;
+mod seq_tree;
+mod seq_trees;
+mod seq_yard;
+mod yard;
 
 pub use event::{Deed, Event, Held, JoinNote, Look, Mode, Pair, Receipt, Reply};
 pub use fault::Fault;
@@ -23,6 +23,7 @@ pub use pairs::{add_held, grant};
 pub use plan::{PLACES_END, YardPlan};
 pub use runs::{JoinCounts, join_pairs};
 pub use seq_note::SeqNote;
+pub use seq_pass::SeqPass;
 pub use seq_yard::SeqYard;
 pub use yard::{Closed, Note, Pass, Yard};
 
