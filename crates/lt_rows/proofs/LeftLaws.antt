@@ -74,8 +74,8 @@ module _ (plan : YardPlan) (last : LastWords) (state : List TreeState) (end : Is
   chain_at_anchor : (nodes_in last t).owner ≢ 0
       → ChainAt (nodes_in last) (nodes_in last t).left (end.forest.tree t) (tree_at state t).pairs (nodes_in last t).owner (count_of (row_words (words_in last) t))
   chain_at_anchor some =
-      as_chain (nodes_in last) (nodes_in last t).left (end.forest.tree t) (tree_at state t).pairs (modes (row_words (words_in last)) t) (nodes_in last t).owner (count_of (row_words (words_in last) t))
-      (mode_buffer (row_words (words_in last) t) some) (end.stands.grown t lt)
+      as_chain (nodes_in last) (nodes_in last t).left (end.forest.tree t) (tree_at state t).pairs (modes (row_words (words_in last)) t)
+      (nodes_in last t).owner (count_of (row_words (words_in last) t)) (mode_buffer (row_words (words_in last) t) some) (end.stands.grown t lt)
 
   pub leads_to_tree : (nodes_in last t).owner ≡ 0 → LeadsToTree last (nodes_in last t).left
   leads_to_tree none = let h = tree_at_anchor none in record { tree = h.tree; leads = h.leads; rows = grown_rows _ h.is }
