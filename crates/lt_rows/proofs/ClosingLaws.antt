@@ -1,5 +1,5 @@
 -- Passes with which a table may be closed.
-use Rattle.std.proofs.Common.{◌≡◌, ℕ, zero, suc, ◌<◌, ◌≤◌, List, [], ◌∷◌, map, length, replicate, refl, sym, ap, ◌∙◌, subst, arith, Some, None}
+use Rattle.std.proofs.Common.{◌≡◌, ℕ, zero, suc, ◌≤◌, List, [], ◌∷◌, map, replicate, refl, sym, ap, ◌∙◌, subst, arith, Some, None}
 use Rattle.std.specs.Prelude.{Option, slice_index_or}
 use Rattle.std.proofs.lemmas.List.Elements.{All-head}
 use Rattle.lt_seq.specs.declared.plan.YardPlan.{YardPlan}
@@ -8,7 +8,7 @@ use Rattle.lt_seq.specs.Passes.{numbers_from}
 use Rattle.lt_rows.specs.declared.view.Row.{Row}
 use Rattle.lt_rows.specs.declared.table.RowTable.{RowTable}
 use Rattle.lt_rows.specs.declared.pass.RowPass.{RowPass}
-use Rattle.lt_rows.specs.Views.{Holds, row_at, rows_of}
+use Rattle.lt_rows.specs.Views.{row_at, rows_of}
 use Rattle.lt_rows.specs.Handles.{knows, IsPassOf}
 use Rattle.lt_rows.specs.Openings.{IsNew, AreItsPasses, rights_at}
 use Rattle.lt_rows.specs.Closings.{HasAll, FirstHasAll}

@@ -1,9 +1,8 @@
 -- A loop that copies a part of a list.
-use Rattle.std.proofs.Common.{◌≡◌, ℕ, zero, suc, ◌+◌, ◌<◌, List, [], ◌∷◌, ◌++◌, length, take, drop, set, get_or, refl, sym, ap, ◌∙◌, arith, length-drop}
+use Rattle.std.proofs.Common.{◌≡◌, ℕ, zero, suc, ◌+◌, ◌<◌, List, [], ◌∷◌, ◌++◌, length, take, drop, set, get_or, sym, ap, ◌∙◌, arith, length-drop}
 use Rattle.std.proofs.lemmas.List.{take_all, take_more, take_more_set, get_or-drop}
 use mathlib.Core.Option.{some, some-ne-none}
 use lib.ListN.{get_elem?}
-use Rattle.lt_rows.proofs.Closes.{elem_get}
 
 pub elem_below : (l : List ℕ) (i a : ℕ) → get_elem? l i ≡ some a → i < length l
 elem_below [] i a e = absurd (some-ne-none a (sym e))

@@ -1,17 +1,16 @@
 -- What is left in the last words of a table.
-use Rattle.std.proofs.Common.{◌≡◌, ◌≢◌, ℕ, zero, suc, ◌+◌, ◌<◌, ◌≤◌, List, [], ◌∷◌, ◌++◌, length, take, map, refl, sym, ap, ◌∙◌, subst, arith, append_assoc, eq-eqb, ne_eqb, Ok, Err}
+use Rattle.std.proofs.Common.{◌≡◌, ◌≢◌, ℕ, zero, suc, ◌+◌, ◌<◌, List, [], ◌∷◌, ◌++◌, length, take, refl, sym, ap, ◌∙◌, subst, arith, append_assoc, eq-eqb, ne_eqb, Ok, Err}
 use Rattle.std.specs.Prelude.{Result, OnOk, slice_index}
 use Rattle.std.proofs.lemmas.List.{append-nil}
 use Rattle.lt_seq.specs.declared.plan.YardPlan.{YardPlan}
-use Rattle.lt_seq.specs.declared.event.Mode.{Mode}
 use Rattle.lt_seq.specs.declared.event.Mode.TheVariants.{Tree as TreeMode, Buffer}
 use Rattle.lt_seq.specs.declared.event.Held.{Held}
 use Rattle.lt_seq.specs.Table.{held_in}
 use Rattle.lt_seq.specs.Passes.{held_from}
 use Rattle.lt_seq.specs.Table.{TreeState, tree_at}
-use Rattle.lt_forest.specs.Counts.{times, total, one_if}
-use Rattle.lt_forest.specs.Trees.{Tree, Nodes, LeadsTo, in_order, pairs_in}
-use Rattle.lt_forest.specs.Forest.{Forest, Growth, rows_at, IsTree, IsChain, folded, IsForest}
+use Rattle.lt_forest.specs.Counts.{times, one_if}
+use Rattle.lt_forest.specs.Trees.{Tree, LeadsTo, pairs_in}
+use Rattle.lt_forest.specs.Forest.{Growth, rows_at, IsTree, IsChain, folded, IsForest}
 use Rattle.lt_forest.proofs.Chains.{total_has, chain_one}
 use Rattle.lt_forest.proofs.ForestLaws.{TreeAt, ChainAt, as_tree, as_chain}
 use Rattle.lt_forest.proofs.FurtherRows.{in_tree_further}

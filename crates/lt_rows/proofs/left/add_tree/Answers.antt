@@ -1,4 +1,4 @@
-use Rattle.std.proofs.Common.{◌≡◌, ℕ, List, ◌++◌, ◌-◌, ◌+◌, ◌*◌, ◌<◌, ◌∷◌, [], length, ap, subst, ◌∙◌, sym, refl, arith, rules, vec_len, length-append}
+use Rattle.std.proofs.Common.{◌≡◌, ℕ, List, ◌++◌, ◌-◌, ◌∷◌, [], length, ap, subst, ◌∙◌, sym, refl, arith, rules, length-append}
 use Rattle.lt_seq.specs.declared.event.Held.{Held}
 use Rattle.lt_seq.specs.Table.{held_in}
 use Rattle.lt_forest.specs.Trees.{pair_of}

@@ -1,4 +1,4 @@
-use Rattle.std.proofs.Common.{◌≡◌, ℕ, List, ◌-◌, ap, subst, ◌∙◌, sym, refl}
+use Rattle.std.proofs.Common.{ℕ, List, ◌-◌, ap, subst, ◌∙◌, sym, refl}
 use Rattle.lt_rows.specs.Nodes.{node_of}
 use Rattle.lt_rows.specs.LastWords.{nodes_in}
 use Rattle.lt_rows.specs.Walks.{InChain}
