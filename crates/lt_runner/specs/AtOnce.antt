@@ -12,7 +12,7 @@ use Rattle.lt_seq.specs.declared.event.Reply.TheVariants.{Granted}
 use Rattle.lt_seq.specs.declared.event.Event.{Event}
 use Rattle.lt_seq.specs.Table.{Setting, used}
 use Rattle.lt_seq.specs.History.{after, IsLegal}
-use Rattle.lt_seq.specs.Yard.{PassView, HasAll, IsPlan, place_after, event_after}
+use Rattle.lt_seq.specs.Yard.{Origin, origin_of, PassView, HasAll, IsPlan, place_after, event_after}
 use Rattle.lt_trace.specs.declared.line.Line.{Line}
 use Rattle.lt_trace.specs.declared.line.LineDeed.{LineDeed}
 use Rattle.lt_trace.specs.declared.line.LineDeed.TheVariants.{Try, Lock, End, Abort, Escalate, Big}
@@ -34,6 +34,11 @@ pub record IsAlone (setting : Setting) (pass : PassView) : Type 0 where
   pub right : 1 ≤ pass.rights
   pub all : HasAll setting pass
   pub legal : IsLegal setting pass.front
+
+-- the pass is of the table, and acts alone
+pub record ActsAlone (origin : Origin) (identity : List ℕ) (setting : Setting) (pass : PassView) : Type 0 where
+  pub of : origin ≡ origin_of identity setting
+  pub alone : IsAlone setting pass
 
 -- no line of the turn is put off, and it owes no free
 pub record IsQuiet (setting : Setting) (turn : Turn) : Type 0 where

@@ -3,8 +3,8 @@ ghost use Rattle.std.specs.Prelude.{◌≡◌, ◌≤◌, ◌<◌, [], ◌∷◌
 ghost use Rattle.lt_seq.specs.declared.event.Deed.TheVariants.{Ask, Free};
 ghost use Rattle.lt_seq.specs.declared.event.Reply.TheVariants.{Granted};
 ghost use Rattle.lt_seq.specs.Alone.{AloneAskAnswers, AloneAnswers};
-ghost use Rattle.lt_seq.specs.Yard.{origin_of, event_after};
-ghost use Rattle.lt_runner.specs.AtOnce.{IsAlone, HasPlaces};
+ghost use Rattle.lt_seq.specs.Yard.{event_after};
+ghost use Rattle.lt_runner.specs.AtOnce.{ActsAlone, HasPlaces};
 
 use crate::release::Release;
 use lt_ranges::KeyRange;
@@ -19,12 +19,10 @@ pub(crate) fn ask<Y: Yard>(
     tree: u32,
     range: &KeyRange,
 ) -> Result<Receipt, Fault>
-    requires of { Y.Pass.origin pass.old ≡ origin_of (Y.identity yard.now) (Y.setting yard.now) }
-    requires alone { IsAlone (Y.setting yard.now) (Y.Pass.view pass.old) }
+    requires acts { ActsAlone (Y.Pass.origin pass.old) (Y.identity yard.now) (Y.setting yard.now) (Y.Pass.view pass.old) }
     requires txn { 1 ≤ txn }
     requires tree { tree < (Y.setting yard.now).plan.trees }
-    ensures of { Y.Pass.origin pass.new ≡ origin_of (Y.identity yard.now) (Y.setting yard.now) }
-    ensures alone { IsAlone (Y.setting yard.now) (Y.Pass.view pass.new) }
+    ensures acts { ActsAlone (Y.Pass.origin pass.new) (Y.identity yard.now) (Y.setting yard.now) (Y.Pass.view pass.new) }
     ensures answer { AloneAskAnswers (Y.setting yard.now) (Y.setting yard.now).plan.limit (Y.Pass.view pass.old) (Y.Pass.view pass.new) txn (Ask tree range.now Granted) result }
 {
     yard.ask(pass, txn, tree, range, false)
@@ -37,13 +35,11 @@ pub(crate) fn free<Y: Yard>(
     txn: u64,
     release: &Release,
 ) -> Result<(), AllocError>
-    requires of { Y.Pass.origin pass.old ≡ origin_of (Y.identity yard.now) (Y.setting yard.now) }
-    requires alone { IsAlone (Y.setting yard.now) (Y.Pass.view pass.old) }
+    requires acts { ActsAlone (Y.Pass.origin pass.old) (Y.identity yard.now) (Y.setting yard.now) (Y.Pass.view pass.old) }
     requires txn { 1 ≤ txn }
     requires tree { release.now.tree < (Y.setting yard.now).plan.trees }
     requires place { HasPlaces (Y.setting yard.now) (Y.Pass.view pass.old).front 0 }
-    ensures of { Y.Pass.origin pass.new ≡ origin_of (Y.identity yard.now) (Y.setting yard.now) }
-    ensures alone { IsAlone (Y.setting yard.now) (Y.Pass.view pass.new) }
+    ensures acts { ActsAlone (Y.Pass.origin pass.new) (Y.identity yard.now) (Y.setting yard.now) (Y.Pass.view pass.new) }
     ensures freed { OnOk result ((Y.Pass.view pass.new).front ≡ (Y.Pass.view pass.old).front
         ++ event_after (Y.setting yard.now) (Y.Pass.view pass.old).front 0 txn (Free release.now.tree release.now.range release.now.first 0) ∷ []) }
 {

@@ -1,8 +1,7 @@
 //! One transaction's lines, by a pass that has all the rights.
 ghost use Rattle.std.specs.Prelude.{◌≡◌, ◌+◌, ◌≤◌, ◌<◌, OnOk, length};
-ghost use Rattle.lt_seq.specs.Yard.{origin_of};
 ghost use Rattle.lt_runner.specs.Turn.{releases_by, releases_in, releases_from, reply_in};
-ghost use Rattle.lt_runner.specs.AtOnce.{IsAlone, IsAsk, IsQuiet, IsPlain, HasPlaces, Step, step_at, freed, ended_by, asked, most_joins, played_by, owed_in, owed};
+ghost use Rattle.lt_runner.specs.AtOnce.{ActsAlone, IsAsk, IsQuiet, IsPlain, HasPlaces, Step, step_at, freed, ended_by, asked, most_joins, played_by, owed_in, owed};
 ghost use Rattle.std.specs.Prelude.{sum_by, true, is_some, false};
 
 use crate::calls;
@@ -22,13 +21,11 @@ fn free_ranges<Y: Yard>(
     tree: u32,
     ranges: &[KeyRange],
 ) -> Result<(), AllocError>
-    requires of { Y.Pass.origin pass.old ≡ origin_of (Y.identity yard.now) (Y.setting yard.now) }
-    requires alone { IsAlone (Y.setting yard.now) (Y.Pass.view pass.old) }
+    requires acts { ActsAlone (Y.Pass.origin pass.old) (Y.identity yard.now) (Y.setting yard.now) (Y.Pass.view pass.old) }
     requires txn { 1 ≤ txn }
     requires tree { tree < (Y.setting yard.now).plan.trees }
     requires places { HasPlaces (Y.setting yard.now) (Y.Pass.view pass.old).front (length ranges.now) }
-    ensures of { Y.Pass.origin pass.new ≡ origin_of (Y.identity yard.now) (Y.setting yard.now) }
-    ensures alone { IsAlone (Y.setting yard.now) (Y.Pass.view pass.new) }
+    ensures acts { ActsAlone (Y.Pass.origin pass.new) (Y.identity yard.now) (Y.setting yard.now) (Y.Pass.view pass.new) }
     ensures freed { OnOk result ((Y.Pass.view pass.new).front ≡ freed (Y.setting yard.now) txn (releases_by tree true ranges.now) (Y.Pass.view pass.old).front) }
 {
     let mut first = true;
@@ -52,13 +49,11 @@ fn free_tree<Y: Yard>(
     tree: u32,
     recorded: &Recorded,
 ) -> Result<(), AllocError>
-    requires of { Y.Pass.origin pass.old ≡ origin_of (Y.identity yard.now) (Y.setting yard.now) }
-    requires alone { IsAlone (Y.setting yard.now) (Y.Pass.view pass.old) }
+    requires acts { ActsAlone (Y.Pass.origin pass.old) (Y.identity yard.now) (Y.setting yard.now) (Y.Pass.view pass.old) }
     requires txn { 1 ≤ txn }
     requires tree { tree < (Y.setting yard.now).plan.trees }
     requires places { HasPlaces (Y.setting yard.now) (Y.Pass.view pass.old).front (owed_in recorded.now) }
-    ensures of { Y.Pass.origin pass.new ≡ origin_of (Y.identity yard.now) (Y.setting yard.now) }
-    ensures alone { IsAlone (Y.setting yard.now) (Y.Pass.view pass.new) }
+    ensures acts { ActsAlone (Y.Pass.origin pass.new) (Y.identity yard.now) (Y.setting yard.now) (Y.Pass.view pass.new) }
     ensures freed { OnOk result ((Y.Pass.view pass.new).front ≡ freed (Y.setting yard.now) txn (releases_in tree recorded.now) (Y.Pass.view pass.old).front) }
 {
     if recorded.buffered {
@@ -80,13 +75,11 @@ fn free_all<Y: Yard>(
     txn: u64,
     recorded: &[Recorded],
 ) -> Result<(), AllocError>
-    requires of { Y.Pass.origin pass.old ≡ origin_of (Y.identity yard.now) (Y.setting yard.now) }
-    requires alone { IsAlone (Y.setting yard.now) (Y.Pass.view pass.old) }
+    requires acts { ActsAlone (Y.Pass.origin pass.old) (Y.identity yard.now) (Y.setting yard.now) (Y.Pass.view pass.old) }
     requires txn { 1 ≤ txn }
     requires trees { length recorded.now ≡ (Y.setting yard.now).plan.trees }
     requires places { HasPlaces (Y.setting yard.now) (Y.Pass.view pass.old).front (sum_by owed_in recorded.now) }
-    ensures of { Y.Pass.origin pass.new ≡ origin_of (Y.identity yard.now) (Y.setting yard.now) }
-    ensures alone { IsAlone (Y.setting yard.now) (Y.Pass.view pass.new) }
+    ensures acts { ActsAlone (Y.Pass.origin pass.new) (Y.identity yard.now) (Y.setting yard.now) (Y.Pass.view pass.new) }
     ensures freed { OnOk result ((Y.Pass.view pass.new).front ≡ freed (Y.setting yard.now) txn (releases_from 0 recorded.now) (Y.Pass.view pass.old).front) }
 {
     for (tree, in_tree) in recorded.iter().enumerate() {
@@ -102,13 +95,11 @@ fn end<Y: Yard>(
     turn: &mut Turn,
     outcome: Outcome,
 ) -> Result<(), AllocError>
-    requires of { Y.Pass.origin pass.old ≡ origin_of (Y.identity yard.now) (Y.setting yard.now) }
-    requires alone { IsAlone (Y.setting yard.now) (Y.Pass.view pass.old) }
+    requires acts { ActsAlone (Y.Pass.origin pass.old) (Y.identity yard.now) (Y.setting yard.now) (Y.Pass.view pass.old) }
     requires quiet { IsQuiet (Y.setting yard.now) turn.old }
     requires open { is_some turn.old.outcome ≡ false }
     requires places { HasPlaces (Y.setting yard.now) (Y.Pass.view pass.old).front (owed turn.old) }
-    ensures of { Y.Pass.origin pass.new ≡ origin_of (Y.identity yard.now) (Y.setting yard.now) }
-    ensures alone { IsAlone (Y.setting yard.now) (Y.Pass.view pass.new) }
+    ensures acts { ActsAlone (Y.Pass.origin pass.new) (Y.identity yard.now) (Y.setting yard.now) (Y.Pass.view pass.new) }
     ensures ended { OnOk result (step_at (Y.Pass.view pass.new).front turn.new ≡ ended_by (Y.setting yard.now) outcome (step_at (Y.Pass.view pass.old).front turn.old)) }
 {
     free_all(yard, pass, turn.txn, &turn.recorded)?;
@@ -135,14 +126,12 @@ fn ask<Y: Yard>(
     tree: u32,
     range: &KeyRange,
 ) -> Result<(), AllocError>
-    requires of { Y.Pass.origin pass.old ≡ origin_of (Y.identity yard.now) (Y.setting yard.now) }
-    requires alone { IsAlone (Y.setting yard.now) (Y.Pass.view pass.old) }
+    requires acts { ActsAlone (Y.Pass.origin pass.old) (Y.identity yard.now) (Y.setting yard.now) (Y.Pass.view pass.old) }
     requires quiet { IsQuiet (Y.setting yard.now) turn.old }
     requires open { is_some turn.old.outcome ≡ false }
     requires tree { tree < (Y.setting yard.now).plan.trees }
     requires places { HasPlaces (Y.setting yard.now) (Y.Pass.view pass.old).front (owed turn.old + (Y.setting yard.now).plan.trees) }
-    ensures of { Y.Pass.origin pass.new ≡ origin_of (Y.identity yard.now) (Y.setting yard.now) }
-    ensures alone { IsAlone (Y.setting yard.now) (Y.Pass.view pass.new) }
+    ensures acts { ActsAlone (Y.Pass.origin pass.new) (Y.identity yard.now) (Y.setting yard.now) (Y.Pass.view pass.new) }
     ensures asked { OnOk result (step_at (Y.Pass.view pass.new).front turn.new ≡ asked (Y.setting yard.now) tree range.now (step_at (Y.Pass.view pass.old).front turn.old)) }
 {
     match calls::ask(yard, pass, turn.txn, tree, range) {
@@ -163,13 +152,11 @@ pub(crate) fn play<Y: Yard>(
     turn: &mut Turn,
     deed: &LineDeed,
 ) -> Result<(), AllocError>
-    requires of { Y.Pass.origin pass.old ≡ origin_of (Y.identity yard.now) (Y.setting yard.now) }
-    requires alone { IsAlone (Y.setting yard.now) (Y.Pass.view pass.old) }
+    requires acts { ActsAlone (Y.Pass.origin pass.old) (Y.identity yard.now) (Y.setting yard.now) (Y.Pass.view pass.old) }
     requires quiet { IsQuiet (Y.setting yard.now) turn.old }
     requires plain { IsPlain (Y.setting yard.now) deed.now }
     requires places { HasPlaces (Y.setting yard.now) (Y.Pass.view pass.old).front (owed turn.old + most_joins (Y.setting yard.now) deed.now) }
-    ensures of { Y.Pass.origin pass.new ≡ origin_of (Y.identity yard.now) (Y.setting yard.now) }
-    ensures alone { IsAlone (Y.setting yard.now) (Y.Pass.view pass.new) }
+    ensures acts { ActsAlone (Y.Pass.origin pass.new) (Y.identity yard.now) (Y.setting yard.now) (Y.Pass.view pass.new) }
     ensures played { OnOk result (step_at (Y.Pass.view pass.new).front turn.new ≡ played_by (Y.setting yard.now) deed.now (step_at (Y.Pass.view pass.old).front turn.old)) }
 {
     if turn.has_ended() {

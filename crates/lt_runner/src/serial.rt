@@ -1,11 +1,10 @@
 //! The plain scheduler.
 ghost use Rattle.std.specs.Prelude.{◌≡◌, ◌≤◌, ◌<◌, ◌+◌, ◌*◌, ◌^◌, [], map, ℕ, length, false, fold, OnOk, IfOk};
 ghost use Rattle.std.specs.List.{All};
-ghost use Rattle.lt_seq.specs.Yard.{origin_of};
 ghost use Rattle.lt_trace.specs.Grammar.{txns_of};
 ghost use Rattle.lt_runner.specs.Serial.{game_at, takes_line, ends_one, most_events, played, plan_of, serial};
 ghost use Rattle.lt_runner.specs.Transcript.{Tells};
-ghost use Rattle.lt_runner.specs.AtOnce.{IsAlone, AreQuiet, AreOpening, IsOfTrace, IsPlayable, HasPlaces, HasEnded, owed_by, numbers_of};
+ghost use Rattle.lt_runner.specs.AtOnce.{ActsAlone, AreQuiet, AreOpening, IsOfTrace, IsPlayable, HasPlaces, HasEnded, owed_by, numbers_of};
 
 use crate::transcript::Transcript;
 use crate::turn::Turn;
@@ -21,13 +20,11 @@ fn take_line<Y: Yard>(
     turns: &mut [Turn],
     line: &Line,
 ) -> Result<(), AllocError>
-    requires of { Y.Pass.origin pass.old ≡ origin_of (Y.identity yard.now) (Y.setting yard.now) }
-    requires alone { IsAlone (Y.setting yard.now) (Y.Pass.view pass.old) }
+    requires acts { ActsAlone (Y.Pass.origin pass.old) (Y.identity yard.now) (Y.setting yard.now) (Y.Pass.view pass.old) }
     requires turns { AreQuiet (Y.setting yard.now) turns.old }
     requires line { IsPlayable (Y.setting yard.now) (numbers_of turns.old) line.now }
     requires places { HasPlaces (Y.setting yard.now) (Y.Pass.view pass.old).front (owed_by turns.old + 16) }
-    ensures of { Y.Pass.origin pass.new ≡ origin_of (Y.identity yard.now) (Y.setting yard.now) }
-    ensures alone { IsAlone (Y.setting yard.now) (Y.Pass.view pass.new) }
+    ensures acts { ActsAlone (Y.Pass.origin pass.new) (Y.identity yard.now) (Y.setting yard.now) (Y.Pass.view pass.new) }
     ensures turns { OnOk result (AreQuiet (Y.setting yard.now) turns.new) }
     ensures numbers { OnOk result (numbers_of turns.new ≡ numbers_of turns.old) }
     ensures owed { OnOk result (length (Y.Pass.view pass.new).front + owed_by turns.new ≤ length (Y.Pass.view pass.old).front + owed_by turns.old + 19) }
@@ -45,13 +42,11 @@ fn take_lines<Y: Yard>(
     turns: &mut [Turn],
     lines: &[Line],
 ) -> Result<(), AllocError>
-    requires of { Y.Pass.origin pass.old ≡ origin_of (Y.identity yard.now) (Y.setting yard.now) }
-    requires alone { IsAlone (Y.setting yard.now) (Y.Pass.view pass.old) }
+    requires acts { ActsAlone (Y.Pass.origin pass.old) (Y.identity yard.now) (Y.setting yard.now) (Y.Pass.view pass.old) }
     requires turns { AreQuiet (Y.setting yard.now) turns.old }
     requires lines { All (IsPlayable (Y.setting yard.now) (numbers_of turns.old)) lines.now }
     requires places { HasPlaces (Y.setting yard.now) (Y.Pass.view pass.old).front (owed_by turns.old + 19 * length lines.now) }
-    ensures of { Y.Pass.origin pass.new ≡ origin_of (Y.identity yard.now) (Y.setting yard.now) }
-    ensures alone { IsAlone (Y.setting yard.now) (Y.Pass.view pass.new) }
+    ensures acts { ActsAlone (Y.Pass.origin pass.new) (Y.identity yard.now) (Y.setting yard.now) (Y.Pass.view pass.new) }
     ensures turns { OnOk result (AreQuiet (Y.setting yard.now) turns.new) }
     ensures numbers { OnOk result (numbers_of turns.new ≡ numbers_of turns.old) }
     ensures owed { OnOk result (length (Y.Pass.view pass.new).front + owed_by turns.new ≤ length (Y.Pass.view pass.old).front + owed_by turns.old + 19 * length lines.now) }
@@ -66,12 +61,10 @@ fn take_lines<Y: Yard>(
 
 /// Ends each transaction that has not ended, in ascending order.
 fn end_all<Y: Yard>(yard: &Y, pass: &mut Y::Pass, turns: &mut [Turn]) -> Result<(), AllocError>
-    requires of { Y.Pass.origin pass.old ≡ origin_of (Y.identity yard.now) (Y.setting yard.now) }
-    requires alone { IsAlone (Y.setting yard.now) (Y.Pass.view pass.old) }
+    requires acts { ActsAlone (Y.Pass.origin pass.old) (Y.identity yard.now) (Y.setting yard.now) (Y.Pass.view pass.old) }
     requires turns { AreQuiet (Y.setting yard.now) turns.old }
     requires places { HasPlaces (Y.setting yard.now) (Y.Pass.view pass.old).front (owed_by turns.old) }
-    ensures of { Y.Pass.origin pass.new ≡ origin_of (Y.identity yard.now) (Y.setting yard.now) }
-    ensures alone { IsAlone (Y.setting yard.now) (Y.Pass.view pass.new) }
+    ensures acts { ActsAlone (Y.Pass.origin pass.new) (Y.identity yard.now) (Y.setting yard.now) (Y.Pass.view pass.new) }
     ensures numbers { OnOk result (numbers_of turns.new ≡ numbers_of turns.old) }
     ensures ended { OnOk result (All HasEnded turns.new) }
     ensures owed { OnOk result (length (Y.Pass.view pass.new).front + owed_by turns.new ≤ length (Y.Pass.view pass.old).front + owed_by turns.old) }
@@ -91,13 +84,11 @@ fn play_lines<Y: Yard>(
     turns: &mut [Turn],
     lines: &[Line],
 ) -> Result<(), AllocError>
-    requires of { Y.Pass.origin pass.old ≡ origin_of (Y.identity yard.now) (Y.setting yard.now) }
-    requires alone { IsAlone (Y.setting yard.now) (Y.Pass.view pass.old) }
+    requires acts { ActsAlone (Y.Pass.origin pass.old) (Y.identity yard.now) (Y.setting yard.now) (Y.Pass.view pass.old) }
     requires fresh { (Y.Pass.view pass.old).front ≡ [] }
     requires turns { AreOpening (Y.setting yard.now) lines.now turns.old }
     requires places { HasPlaces (Y.setting yard.now) [] (19 * length lines.now) }
-    ensures of { Y.Pass.origin pass.new ≡ origin_of (Y.identity yard.now) (Y.setting yard.now) }
-    ensures alone { IsAlone (Y.setting yard.now) (Y.Pass.view pass.new) }
+    ensures acts { ActsAlone (Y.Pass.origin pass.new) (Y.identity yard.now) (Y.setting yard.now) (Y.Pass.view pass.new) }
     ensures numbers { OnOk result (numbers_of turns.new ≡ txns_of lines.now) }
     ensures ended { OnOk result (All HasEnded turns.new) }
     ensures few { OnOk result (length (Y.Pass.view pass.new).front ≤ 19 * length lines.now) }
@@ -115,14 +106,12 @@ fn play_trace<Y: Yard>(
     lines: &[Line],
     trees: u32,
 ) -> Result<Vec<Turn>, AllocError>
-    requires of { Y.Pass.origin pass.old ≡ origin_of (Y.identity yard.now) (Y.setting yard.now) }
-    requires alone { IsAlone (Y.setting yard.now) (Y.Pass.view pass.old) }
+    requires acts { ActsAlone (Y.Pass.origin pass.old) (Y.identity yard.now) (Y.setting yard.now) (Y.Pass.view pass.old) }
     requires fresh { (Y.Pass.view pass.old).front ≡ [] }
     requires trees { trees ≡ (Y.setting yard.now).plan.trees }
     requires lines { All (IsOfTrace (Y.setting yard.now)) lines.now }
     requires places { HasPlaces (Y.setting yard.now) [] (19 * length lines.now) }
-    ensures of { Y.Pass.origin pass.new ≡ origin_of (Y.identity yard.now) (Y.setting yard.now) }
-    ensures alone { IsAlone (Y.setting yard.now) (Y.Pass.view pass.new) }
+    ensures acts { ActsAlone (Y.Pass.origin pass.new) (Y.identity yard.now) (Y.setting yard.now) (Y.Pass.view pass.new) }
     ensures numbers { IfOk result (λ turns. numbers_of turns.items ≡ txns_of lines.now) }
     ensures ended { IfOk result (λ turns. All HasEnded turns.items) }
     ensures few { OnOk result (length (Y.Pass.view pass.new).front ≤ 19 * length lines.now) }

@@ -5,7 +5,7 @@ ghost use Rattle.lt_trace.specs.Grammar.{is_last};
 use lt_ranges::KeyRange;
 
 /// What a line asks for.
-#[derive(Clone, Copy, Debug, PartialEq, Eq)]
+#[derive(Clone, Copy, Debug, PartialEq, Eq, Hash)]
 pub enum LineDeed {
     /// Ask once for a range.
     Try { tree: u32, range: KeyRange },
@@ -31,7 +31,7 @@ impl LineDeed {
 }
 
 /// A line of a transaction.
-#[derive(Clone, Copy, Debug, PartialEq, Eq)]
+#[derive(Clone, Copy, Debug, PartialEq, Eq, Hash)]
 pub struct Line {
     /// The transaction, from 1 to 999,999,999.
     pub txn: u64,

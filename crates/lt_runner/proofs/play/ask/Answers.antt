@@ -25,7 +25,7 @@ end-requires-clause-places g c κs within =
     let stop = c.in-Err-OutOfLocks in
     let is : c.ask.result ≡ Err (OutOfLocks stop.place stop.used) = stop.is ∙ ap (λ (f : Fault). Err f) (stop.field-0-is) in
     let answers = subst (AloneAskAnswers setting setting.plan.limit old new txn (Ask c.args.tree c.args.range.now Granted)) is c.ask.ensures.answer in
-    let front = stopped_front setting old new c.args.tree c.args.range.now txn stop.place stop.used c.requires.alone.number answers in
+    let front = stopped_front setting old new c.args.tree c.args.range.now txn stop.place stop.used c.requires.acts.alone.number answers in
     omega (arith, c.requires.places, ap length front, length_joined setting txn old.front)
 
 pub unreachable-requires-in-Err-HistoryFull : goal.unreachable-requires-in-Err-HistoryFull
@@ -35,7 +35,7 @@ unreachable-requires-in-Err-HistoryFull g c =
     let full = c.in-Err-HistoryFull in
     let is : c.ask.result ≡ Err (HistoryFull full.field-0-0) = full.is ∙ ap (λ (f : Fault). Err f) full.field-0-is in
     never_refused setting (view c.args.pass.now) (view c.ask.new.pass) c.turn.inside.txn (Ask c.args.tree c.args.range.now Granted) c.ask.result (HistoryFull full.field-0-0) c.ask.ensures.answer is
-    (omega (arith, c.requires.places, c.requires.alone.plan.trees_most))
+    (omega (arith, c.requires.places, c.requires.acts.alone.plan.trees_most))
 
 pub returns-in-Ok-clause-asked : goal.returns-in-Ok-clause-asked
 returns-in-Ok-clause-asked g c =
@@ -49,7 +49,7 @@ returns-in-Ok-clause-asked g c =
     let ask = c.in-Ok.receipt in
     let answers = subst (λ (n : ℕ). AloneAskAnswers setting setting.plan.limit old new n (Ask tree range Granted) (Ok ask)) (ap (λ (t : Turn). t.txn) c.turn.view_is)
     (subst (AloneAskAnswers setting setting.plan.limit old new c.turn.inside.txn (Ask tree range Granted)) c.in-Ok.is c.ask.ensures.answer) in
-    let made = asked_made setting old new tree range turn ask c.requires.alone.number c.requires.quiet.big answers in
+    let made = asked_made setting old new tree range turn ask c.requires.acts.alone.number c.requires.quiet.big answers in
     on_ok_weaker c.answer.result
     (λ (is : c.answer.new.self ≡ answered_by tree range c.reply_in.result.now turn). ap (step_at new.front) is
     ∙ ap (λ (r : Reply). step_at new.front (answered_by tree range r turn)) c.reply_in.ensures ∙ made)
@@ -68,5 +68,5 @@ returns-in-Err-OutOfLocks-clause-asked g c =
     let is : c.ask.result ≡ Err (OutOfLocks stop.place stop.used) = stop.is ∙ ap (λ (f : Fault). Err f) stop.field-0-is in
     let answers = subst (λ (n : ℕ). AloneAskAnswers setting setting.plan.limit old new n (Ask tree range Granted) (Err (OutOfLocks stop.place stop.used))) (ap (λ (t : Turn). t.txn) c.turn.view_is)
     (subst (AloneAskAnswers setting setting.plan.limit old new c.turn.inside.txn (Ask tree range Granted)) is c.ask.ensures.answer) in
-    let stopped = asked_stopped setting old new tree range turn stop.place stop.used c.requires.alone.number c.requires.quiet.big c.requires.alone.plan.trees answers in
+    let stopped = asked_stopped setting old new tree range turn stop.place stop.used c.requires.acts.alone.number c.requires.quiet.big c.requires.acts.alone.plan.trees answers in
     on_ok_weaker c.end.result (λ ended. ended ∙ stopped) c.end.ensures.ended

@@ -20,8 +20,7 @@ loop-turn-preserved g c =
     let p : IsPlayed setting End turns before after place d new =
     record { stand = c.loop-turn.invariant.stand; inside = inside; plain = tt; step = c.in_ok-play.ensures.played } in
     record {
-      of = search rules;
-      alone = search rules;
+      acts = search rules;
       stand = played_turns setting End turns before after place d new p;
       numbers = played_numbers setting End turns before after place d new p ∙ c.loop-turn.invariant.numbers;
       owed = omega (arith, played_owed setting End turns before after place d new p, c.loop-turn.invariant.owed);

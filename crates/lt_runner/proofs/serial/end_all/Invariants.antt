@@ -1,8 +1,7 @@
 use Rattle.std.proofs.Common.{◌≡◌, ℕ, ◌+◌, ◌≤◌, false, fold, length}
 use Rattle.std.specs.List.{AllWithin}
-use Rattle.lt_seq.specs.Yard.{origin_of}
 use Rattle.lt_runner.specs.Serial.{game_at, ends_one}
-use Rattle.lt_runner.specs.AtOnce.{IsAlone, AreQuiet, HasEnded, owed_by, numbers_of}
+use Rattle.lt_runner.specs.AtOnce.{ActsAlone, AreQuiet, HasEnded, owed_by, numbers_of}
 use Rattle.lt_runner.proofs.ScheduleLaws.{GoesOn}
 use Rattle.lt_runner.proofs.serial.end_all.Given as goal
 
@@ -13,8 +12,7 @@ invariant-loop-turn g l =
     let setting = g.Y.Yard.setting l.yard in
     let txns = numbers_of l.fn.turns in
     record {
-      of : g.Y.Pass.Pass.origin l.pass ≡ origin_of (g.Y.Yard.identity l.yard) setting;
-      alone : IsAlone setting (view l.pass);
+      acts : ActsAlone (g.Y.Pass.Pass.origin l.pass) (g.Y.Yard.identity l.yard) setting (view l.pass);
       stand : AreQuiet setting l.turns;
       numbers : numbers_of l.turns ≡ txns;
       owed : length (view l.pass).front + owed_by l.turns ≤ length (view l.fn.pass).front + owed_by l.fn.turns;

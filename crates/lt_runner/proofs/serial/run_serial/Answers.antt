@@ -31,7 +31,7 @@ returns-clause-serial g c =
     let front = only_front view c.in_ok-yard.passes.items new c.plan_of-plan.result.passes c.in_ok-yard.ensures.passes (ap (λ (plan : YardPlan). plan.passes) c.plan_of-plan.ensures) in
     tells c.args.trace.now c.args.first setting (view new).front c.in_ok-turns.turns.items passes closed c.in_ok-outcomes.outcomes c.pop.new.self.items c.in-Some.receipts
     (c.in_ok-yard.ensures.setting ∙ ap setting_is c.plan_of-plan.ensures)
-    c.in_ok-turns.ensures.alone.legal
+    c.in_ok-turns.ensures.acts.alone.legal
     (c.in_ok-turns.ensures.game ∙ ap (λ lines. played setting (txns_of lines) lines) c.lines-lines.ensures.lines)
     (subst (λ events. IsRest setting events passes closed) front c.in_ok-lists.ensures.rest)
     c.in-Some.ensures.items

@@ -20,10 +20,9 @@ returns g c =
     let p : IsPlayed setting line.deed turns before after place d new =
     record { stand = c.requires.turns; inside = c.place_of-place.ensures.inside; plain = c.requires.line.plain; step = step } in p in
     record {
-      of = search rules;
-      alone = search rules;
+      acts = search rules;
       turns = on_ok_weaker c.play.result (λ step. played_turns setting line.deed turns before after place d new (played step)) c.play.ensures.played;
       numbers = on_ok_weaker c.play.result (λ step. played_numbers setting line.deed turns before after place d new (played step)) c.play.ensures.played;
-      owed = on_ok_weaker c.play.result (λ step. omega (arith, played_owed setting line.deed turns before after place d new (played step), gain_most setting line.deed, c.requires.alone.plan.trees_most)) c.play.ensures.played;
+      owed = on_ok_weaker c.play.result (λ step. omega (arith, played_owed setting line.deed turns before after place d new (played step), gain_most setting line.deed, c.requires.acts.alone.plan.trees_most)) c.play.ensures.played;
       game = on_ok_weaker c.play.result (λ step. played_game setting line turns before after place d new (played step) (c.place_of-place.ensures.found d)) c.play.ensures.played;
     }
