@@ -1,1 +1,5 @@
 pub mod RegistryLaws
+pub mod QuestionLaws
+pub mod DeadlockLaws
+pub mod SearchLaws
+pub mod StartLaws

@@ -1,13 +1,11 @@
 -- Wishes that ascend by transaction: where one stands, and what an edit there does.
-use Rattle.std.proofs.Common.{◌≡◌, ℕ, zero, suc, ◌+◌, ◌-◌, ◌≤◌, ◌<◌, List, [], ◌∷◌, ◌++◌, map, length, get_or, take, drop, Bool, true, false, cond, not, ◌||◌, eqb, ltb, leb, Option, Some, None, Result, Ok, Err, IfOk, IfErr, refl, sym, ap, subst, ◌∙◌, ◌⊎◌, inl, inr, arith}
-use Rattle.std.specs.Prelude.{filter, find, slice_index}
-use Rattle.std.specs.List.{insert, remove}
+use Rattle.std.proofs.Common.{◌≡◌, ℕ, zero, suc, ◌+◌, ◌≤◌, ◌<◌, List, [], ◌∷◌, length, get_or, Bool, true, false, cond, not, ◌||◌, eqb, ltb, leb, Some, None, Result, Ok, Err, IfOk, IfErr, refl, sym, ap, subst, ◌∙◌, inl, inr, arith}
+use Rattle.std.specs.Prelude.{filter, slice_index}
 use Rattle.std.specs.List.Sorted.{IsStrictlyIncreasing, IsSearchInRange, IsBinarySearchResult, IsNonDecreasingBy, IsPartitionPoint}
 use Rattle.std.specs.Ordering.{nat_cmp, ordering_index}
 use Rattle.std.proofs.lemmas.Cmp.{ranked}
 use Rattle.std.proofs.lemmas.Bool.{cases_lt, eq-eqb, ne_eqb, eqb-false, ltb-true, ltb-false, leb-true, leb-false}
 use Rattle.std.proofs.lemmas.Bool.Decides.{nat_tests}
-use Rattle.lt_ranges.specs.Numbers.{is_in}
 use Rattle.lt_seq.proofs.NumbersLaws.{AllAbove, Rises, increasing_from}
 use Rattle.lt_requests.specs.declared.wish.Wish.{Wish}
 use Rattle.lt_requests.specs.Registered.{txns_of, Ascend, is_registered, wish_of, next_above, without, with_wish, IsFoundAt, IsGapAt, IsNextAt}
@@ -177,7 +175,7 @@ above-filter n test (w ∷ ws) all = by_test (test w) (above-filter n test ws al
     by_test true rest = (all.0, rest)
     by_test false rest = rest
 
-rises-filter : (test : Wish → Bool) (ws : List Wish) → Rises (txns_of ws) → Rises (txns_of (filter test ws))
+pub rises-filter : (test : Wish → Bool) (ws : List Wish) → Rises (txns_of ws) → Rises (txns_of (filter test ws))
 rises-filter test [] rises = tt
 rises-filter test (w ∷ ws) rises = by_test (test w) (rises-filter test ws rises.1)
   where

@@ -1,23 +1,23 @@
--- Closed walks in a graph of edges.
-use Rattle.std.specs.Prelude.{ℕ, zero, suc, List, [], ◌∷◌, map, filter, length, Option, Some, None, ◌==◌, if◌then◌else◌}
-use Rattle.std.specs.List.{flat_map}
+-- The deadlock that the edges of a search show.
+use Rattle.std.specs.Prelude.{ℕ, List, [], ◌∷◌, ◌++◌, map, find, Option, option_map, option_to_list, ◌==◌, ◌&&◌}
+use Rattle.lt_waits.specs.declared.wait.Wait.{Wait}
+use Rattle.lt_waits.specs.Walks.{least_walk}
 use Rattle.lt_requests.specs.declared.cycle.Edge.{Edge}
 
--- the walks of so many edges from one transaction to another, where the edges from each one come first that come first in the list
-abbrev pub walks : ℕ → List Edge → ℕ → ℕ → List (List Edge)
-walks zero edges from to = if from == to then [] ∷ [] else []
-walks (suc n) edges from to = flat_map (λ e. map (λ walk. e ∷ walk) (walks n edges e.holder to)) (filter (λ e. e.waiter == from) edges)
+-- who waits for whom by these edges
+abbrev pub waits_of : List Edge → List Wait
+waits_of edges = map (λ e. record { waiter = e.waiter; holder = e.holder }) edges
 
--- the first walk back to the transaction among those with the fewest edges: tries n numbers of edges, from least on
-abbrev pub shortest : ℕ → ℕ → List Edge → ℕ → Option (List Edge)
-shortest zero least edges txn = None
-shortest (suc n) least edges txn = first_or (walks least edges txn txn) (shortest n (suc least) edges txn)
-  where
-    first_or : List (List Edge) → Option (List Edge) → Option (List Edge)
-    first_or [] other = other
-    first_or (walk ∷ walks) other = Some walk
+-- the first edge from the one to the other
+abbrev pub edge_between : List Edge → ℕ → ℕ → Option Edge
+edge_between edges waiter holder = find (λ e. e.waiter == waiter && e.holder == holder) edges
 
--- A shortest walk from the transaction back to it, which has no more edges than the graph. Where the edges of one waiter stand
--- by ascending holder, it is the lexicographically least of the shortest.
+-- the edges that a walk goes along
+abbrev pub edges_along : List Edge → List ℕ → List Edge
+edges_along edges [] = []
+edges_along edges (last ∷ []) = []
+edges_along edges (from ∷ to ∷ more) = option_to_list (edge_between edges from to) ++ edges_along edges (to ∷ more)
+
+-- the edges of the least closed walk through the transaction
 abbrev pub cycle_of : List Edge → ℕ → Option (List Edge)
-cycle_of edges txn = shortest (length edges) 1 edges txn
+cycle_of edges txn = option_map (λ walk. edges_along edges walk) (least_walk (waits_of edges) txn)

@@ -1,5 +1,7 @@
 //! The transactions that wait.
-ghost use Rattle.std.specs.Prelude.{◌≡◌, [], true, false, is_ok, if◌then◌else◌, IfOk, IfErr};
+ghost use Rattle.std.specs.Prelude.{◌≡◌, [], true, false, is_ok, if◌then◌else◌, IfOk, IfErr, All};
+ghost use Rattle.std.specs.List.Sorted.{IsStrictlyIncreasing};
+ghost use Rattle.lt_requests.specs.Search.{wishes_of};
 ghost use Rattle.lt_requests.specs.Registered.{Ascend, is_registered, wish_of, next_above, without, with_wish, IsFoundAt, IsGapAt, IsNextAt};
 
 use crate::wish::Wish;
@@ -92,6 +94,23 @@ impl Registry {
             }
             Err(_) => false,
         }
+    }
+
+    /// What those of the owners that wait wait for, by ascending transaction. The owners ascend.
+    pub(crate) fn named(&self, alloc: Global, owners: &[u64]) -> Result<Vec<Wish>, OutOfMemory>
+        requires { IsStrictlyIncreasing owners.now }
+        ensures named { IfOk result (λ named. named.items ≡ wishes_of owners.now self.now) }
+        ensures ascend { IfOk result (λ named. Ascend named.items) }
+        ensures waiting { IfOk result (λ named. All (λ w. is_registered w.txn self.now ≡ true) named.items) }
+    {
+        let most = owners.len().min(self.wishes.len());
+        let mut named = Vec::with_capacity(alloc, most)?;
+        for owner in owners {
+            if let Some(wish) = self.wish_of(*owner) {
+                named.push(wish)?;
+            }
+        }
+        Ok(named)
     }
 
     /// Adds the wish of a transaction that does not wait. Want of memory leaves the registry as it was.
