@@ -11,8 +11,7 @@ use crate::registry::Registry;
 use crate::search::search;
 use crate::started::Started;
 use crate::wish::Wish;
-use lt_seq::yard::{Pass, Yard};
-use lt_seq::{Deed, Fault, Owners, Reply};
+use lt_seq::{Deed, Fault, Owners, Pass, Reply, Yard};
 use std::alloc::{AllocError, Global};
 
 /// Asks for what a transaction wants that does not wait, `big` with the bar of a big transaction. Where it is held it is

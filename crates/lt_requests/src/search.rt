@@ -13,8 +13,7 @@ use crate::deadlock::cycle_in;
 use crate::questions::Questions;
 use crate::registry::Registry;
 use crate::wish::Wish;
-use lt_seq::yard::{Pass, Yard};
-use lt_seq::{Deed, Fault, Reply};
+use lt_seq::{Deed, Fault, Pass, Reply, Yard};
 use std::alloc::{AllocError, Global};
 
 /// Asks who stands in the way of those that the owners wait for, one after another, and finds the least closed walk through
