@@ -3,3 +3,4 @@ pub mod QuestionLaws
 pub mod DeadlockLaws
 pub mod SearchLaws
 pub mod StartLaws
+pub mod KeepLaws

@@ -8,7 +8,7 @@ use Rattle.lt_seq.specs.declared.event.Receipt.{Receipt}
 use Rattle.lt_seq.specs.declared.fault.Fault.{Fault}
 use Rattle.lt_seq.specs.declared.fault.Fault.TheVariants.{OutOfMemory}
 use Rattle.lt_seq.specs.Table.{Setting}
-use Rattle.lt_seq.specs.Yard.{PassView, Happens, Answers, AskAnswers}
+use Rattle.lt_seq.specs.Yard.{PassView, Happens, Answers, AskAnswers, IsSound, Goes}
 use Rattle.lt_seq.specs.Questions.{question, named_in}
 use Rattle.lt_requests.specs.declared.wish.Wish.{Wish}
 use Rattle.lt_requests.specs.declared.cycle.Edge.{Edge}
@@ -130,3 +130,8 @@ IsStarted setting bar wish others waiting before old new after (Ok (StartedGrant
 IsStarted setting bar wish others waiting before old new after (Ok (Waits owners)) = IsSearched setting bar wish waiting old new owners None × (after ≡ waiting)
 IsStarted setting bar wish others waiting before old new after (Ok (Deadlock walk)) = ((owners : List ℕ) × IsSearched setting bar wish waiting old new owners (Some walk)) × (after ≡ others)
 IsStarted setting bar wish others waiting before old new after (Err fault) = HasFault setting bar wish old new fault × (after ≡ before)
+
+-- What a start or a retry keeps, whatever it answers: the pass keeps its rights, and where it was sound it has seen no less and is sound.
+pub record Keeps (setting : Setting) (old new : PassView) : Type 0 where
+  pub rights : new.rights ≡ old.rights
+  pub goes : IsSound setting old → Goes setting old new

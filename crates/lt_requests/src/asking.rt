@@ -5,7 +5,7 @@ ghost use Rattle.lt_ranges.specs.Numbers.{is_in};
 ghost use Rattle.lt_seq.specs.Yard.{origin_of, bar_for};
 ghost use Rattle.lt_requests.specs.declared.wish.Wish.{Wish};
 ghost use Rattle.lt_requests.specs.Registered.{MayAsk, may_ask, is_registered, wish_of, without, with_wish};
-ghost use Rattle.lt_requests.specs.Started.{IsStarted, IsHeldAnswer, reply_of};
+ghost use Rattle.lt_requests.specs.Started.{IsStarted, IsHeldAnswer, Keeps, reply_of};
 
 use crate::registry::Registry;
 use crate::search::search;
@@ -35,6 +35,7 @@ pub fn start<Y: Yard>(
     requires may { MayAsk (Y.setting yard.now).plan.trees registry.old }
     ensures of { Y.Pass.origin pass.new ≡ origin_of (Y.identity yard.now) (Y.setting yard.now) }
     ensures may { MayAsk (Y.setting yard.now).plan.trees registry.new }
+    ensures keeps { Keeps (Y.setting yard.now) (Y.Pass.view pass.old) (Y.Pass.view pass.new) }
     ensures answer { IsStarted (Y.setting yard.now) (bar_for (Y.setting yard.now) big) wish.now registry.old (with_wish wish.now registry.old) registry.old (Y.Pass.view pass.old) (Y.Pass.view pass.new) registry.new result }
 {
     if let Err(AllocError) = registry.add(*wish) {
@@ -64,6 +65,7 @@ pub fn retry<Y: Yard>(
     requires may { MayAsk (Y.setting yard.now).plan.trees registry.old }
     ensures of { Y.Pass.origin pass.new ≡ origin_of (Y.identity yard.now) (Y.setting yard.now) }
     ensures may { MayAsk (Y.setting yard.now).plan.trees registry.new }
+    ensures keeps { Keeps (Y.setting yard.now) (Y.Pass.view pass.old) (Y.Pass.view pass.new) }
     ensures answer { (wish : Wish) → wish_of txn registry.old ≡ Some wish
         → IsStarted (Y.setting yard.now) (bar_for (Y.setting yard.now) big) wish (without txn registry.old) registry.old registry.old (Y.Pass.view pass.old) (Y.Pass.view pass.new) registry.new result }
 {

@@ -1,6 +1,7 @@
-use Rattle.std.proofs.Common.{sym, subst, ap, ◌∙◌}
+use Rattle.std.proofs.Common.{sym, subst, ap, ◌∙◌, refl}
 use Rattle.lt_requests.specs.Registered.{MayAsk, with_wish, without}
 use Rattle.lt_seq.specs.Yard.{bar_for}
+use Rattle.lt_requests.proofs.KeepLaws.{keeps_started, keeps_itself}
 use Rattle.lt_requests.proofs.StartLaws.{may_with, may_without, may_after, started_by, out_again}
 use Rattle.lt_requests.proofs.asking.start.Goals as goal
 
@@ -35,3 +36,20 @@ pub returns-in-Err-ask_for-clause-answer : goal.returns-in-Err-ask_for-clause-an
 returns-in-Err-ask_for-clause-answer g c =
     let is = c.in-Err-ask_for.ensures.answer in
     (is.0, c.forget.ensures.left ∙ ap (without c.args.wish.now.txn) (is.1 ∙ c.in_default.ensures) ∙ out_again c.args.wish.now c.args.registry.now c.requires.absent)
+
+pub returns-in-Ok-clause-keeps : goal.returns-in-Ok-clause-keeps
+returns-in-Ok-clause-keeps g c =
+    let setting = g.Y.Yard.setting c.args.yard.now in
+    let view = g.Y.Pass.Pass.view in
+    let all = c.add.new.self in
+    keeps_started setting (bar_for setting c.args.big) c.args.wish.now (without c.args.wish.now.txn all) all all (view c.args.pass.now) (view c.ask_for.new.pass) c.ask_for.new.registry c.ask_for.result c.ask_for.ensures.answer
+
+pub returns-in-Err-ask_for-clause-keeps : goal.returns-in-Err-ask_for-clause-keeps
+returns-in-Err-ask_for-clause-keeps g c =
+    let setting = g.Y.Yard.setting c.args.yard.now in
+    let view = g.Y.Pass.Pass.view in
+    let all = c.add.new.self in
+    keeps_started setting (bar_for setting c.args.big) c.args.wish.now (without c.args.wish.now.txn all) all all (view c.args.pass.now) (view c.ask_for.new.pass) c.ask_for.new.registry c.ask_for.result c.ask_for.ensures.answer
+
+pub returns-in-Err-clause-keeps : goal.returns-in-Err-clause-keeps
+returns-in-Err-clause-keeps g c = keeps_itself _ _ _ refl
