@@ -15,15 +15,15 @@ use Rattle.lt_requests.specs.Started.{AreMade, HasSearched, HasFailed, IsCutShor
 
 pub keeps_itself : (setting : Setting) (old new : PassView) → new ≡ old → Keeps setting old new
 keeps_itself setting old new same = subst (λ p. Keeps setting old p) (sym same) (record {
-    rights = refl;
-    goes = λ sound. record { number = refl; met = omega arith; front = front_itself old.front; sound = sound };
-  })
+  rights = refl;
+  goes = λ sound. record { number = refl; met = omega arith; front = front_itself old.front; sound = sound };
+})
 
 keeps_then : (setting : Setting) (one two three : PassView) → Keeps setting one two → Keeps setting two three → Keeps setting one three
 keeps_then setting one two three first second = record {
-    rights = second.rights ∙ first.rights;
-    goes = λ sound. (let a = first.goes sound in goes_then setting one two three a (second.goes a.sound));
-  }
+  rights = second.rights ∙ first.rights;
+  goes = λ sound. (let a = first.goes sound in goes_then setting one two three a (second.goes a.sound));
+}
 
 keeps_made : (setting : Setting) (old new : PassView) (txn : ℕ) (rs : List Receipt) → AreMade setting old new txn rs → Keeps setting old new
 keeps_made setting old new txn [] made = keeps_itself setting old new made
