@@ -1,17 +1,17 @@
 -- What is kept, whatever is answered.
-use Rattle.std.proofs.Common.{◌≡◌, ◌⊎◌, ℕ, ◌≤◌, List, [], ◌∷◌, Option, Some, None, Result, Ok, Err, refl, sym, ap, subst, ◌∙◌, inl, inr, arith}
+use Rattle.std.proofs.Common.{◌≡◌, ℕ, List, [], ◌∷◌, Option, Some, None, Result, Ok, Err, refl, sym, subst, ◌∙◌, inl, inr, arith}
 use Rattle.lt_seq.specs.declared.fault.Fault.{Fault}
 use Rattle.lt_seq.specs.declared.event.Receipt.{Receipt}
 use Rattle.lt_seq.specs.declared.event.Deed.{Deed}
 use Rattle.lt_seq.specs.Table.{Setting}
-use Rattle.lt_seq.specs.Yard.{PassView, Happens, Answers, AskAnswers, IsSound, Goes}
+use Rattle.lt_seq.specs.Yard.{PassView, Answers, AskAnswers}
 use Rattle.lt_seq.proofs.HistoryLaws.{front_itself}
 use Rattle.lt_seq.proofs.YardLaws.{goes_then}
 use Rattle.lt_requests.specs.declared.wish.Wish.{Wish}
 use Rattle.lt_requests.specs.declared.cycle.Edge.{Edge}
 use Rattle.lt_requests.specs.declared.started.Started.{Started}
 use Rattle.lt_requests.specs.declared.started.Started.TheVariants.{Granted as StartedGranted, Waits, Deadlock}
-use Rattle.lt_requests.specs.Started.{AreMade, HasSearched, HasFailed, IsCutShort, IsGranted, IsSearched, IsCutAsk, HasFault, IsStarted, Keeps, deed_for}
+use Rattle.lt_requests.specs.Started.{AreMade, HasFailed, IsCutShort, IsSearched, HasFault, IsStarted, Keeps, deed_for}
 
 pub keeps_itself : (setting : Setting) (old new : PassView) → new ≡ old → Keeps setting old new
 keeps_itself setting old new same = subst (λ p. Keeps setting old p) (sym same) (record {

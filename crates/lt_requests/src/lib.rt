@@ -15,3 +15,6 @@ pub use cycle::{Cycle, Edge};
 pub use registry::Registry;
 pub use started::Started;
 pub use wish::Wish;
+
+#[cfg(test)]
+mod tests;
