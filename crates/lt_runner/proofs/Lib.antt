@@ -30,3 +30,6 @@ pub mod WholeLaws
 pub mod OrderLaws
 pub mod HeadlineLaws
 pub mod AskedLaws
+pub mod ListLaws
+pub mod AnswerLaws
+pub mod PlaysOnLaws

@@ -1,4 +1,7 @@
 pub mod TurnView
+pub mod Seats
+pub mod Calls
+pub mod PlaysOn
 pub mod Turn
 pub mod Attempt
 pub mod Plays

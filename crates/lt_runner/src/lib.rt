@@ -1,9 +1,12 @@
 //! Plays traces.
 #![tactic(auto)]
 
+mod at_once;
+mod attempt;
 mod calls;
 pub mod laws;
 mod play;
+mod recorded;
 mod release;
 mod serial;
 mod transcript;
@@ -13,6 +16,7 @@ mod turns;
 pub use release::Release;
 pub use serial::run_serial;
 pub use transcript::Transcript;
+pub use turn::{Moved, Turn};
 
 #[cfg(test)]
 mod tests;

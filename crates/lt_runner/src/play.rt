@@ -4,9 +4,9 @@ ghost use Rattle.lt_runner.specs.Turn.{releases_by, releases_in, releases_from, 
 ghost use Rattle.lt_runner.specs.AtOnce.{ActsAlone, IsAsk, IsQuiet, IsPlain, HasPlaces, Step, step_at, freed, ended_by, asked, most_joins, played_by, owed_in, owed};
 ghost use Rattle.std.specs.Prelude.{sum_by, true, is_some, false};
 
+use crate::at_once::{Recorded, Turn};
 use crate::calls;
 use crate::release::Release;
-use crate::turn::{Recorded, Turn};
 use lt_history::Outcome;
 use lt_ranges::KeyRange;
 use lt_seq::{Deed, Fault, Pass, Reply, Yard};

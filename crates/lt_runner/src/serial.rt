@@ -6,8 +6,8 @@ ghost use Rattle.lt_runner.specs.Serial.{game_at, takes_line, ends_one, most_eve
 ghost use Rattle.lt_runner.specs.Transcript.{Tells};
 ghost use Rattle.lt_runner.specs.AtOnce.{ActsAlone, AreQuiet, AreOpening, IsOfTrace, IsPlayable, HasPlaces, HasEnded, owed_by, numbers_of};
 
+use crate::at_once::Turn;
 use crate::transcript::Transcript;
-use crate::turn::Turn;
 use crate::{play, turns};
 use lt_seq::{Closed, Pass, Yard, YardPlan};
 use lt_trace::{Line, LineDeed, Trace};

@@ -1,9 +1,11 @@
 //! Traces played over the plain table.
 ghost use Rattle.std.specs.Prelude.{◌≤◌, ◌^◌};
 
-use crate::run_serial;
+use crate::{Moved, Turn, run_serial};
 use lt_history::print;
-use lt_seq::SeqYard;
+use lt_ranges::KeyRange;
+use lt_seq::{SeqYard, Yard, YardPlan};
+use lt_trace::LineDeed;
 use std::alloc::Global;
 use std::test::Fail;
 
@@ -37,5 +39,33 @@ fn lines_behind_an_out_of_locks_are_dropped(rt: HostRuntime) -> Result<(), Fail>
         text.as_slice(),
         b"7 2 ask 0 \"a\" \"c\" granted\n8 2 join 0 1 1\n9 2 free 0 \"a\" \"c\" 1\ntxn 1 done\ntxn 2 outoflocks 9 1\nend 3 0\n".as_slice()
     );
+    Ok(())
+}
+
+#[test]
+fn a_turn_plays_its_lines_and_then_its_release(rt: HostRuntime) -> Result<(), Fail> {
+    let alloc = rt.alloc();
+    let plan = YardPlan {
+        trees: 1,
+        limit: 64,
+        buffer: 0,
+        passes: 1,
+        first: 0,
+    };
+    let (yard, mut passes) = SeqYard::build(alloc, &plan)?;
+    let pass = &mut passes[0];
+    let mut turn = Turn::without_lines(alloc, 1, 1)?;
+    let range = KeyRange::whole();
+    turn.add_line(5, LineDeed::Try { tree: 0, range })?;
+    turn.add_line(6, LineDeed::End)?;
+    let tried = turn.play(&yard, pass)?;
+    assert_eq!(rt; tried, Moved::Played);
+    assert_eq!(rt; turn.lines_left(), 1);
+    let ended = turn.play(&yard, pass)?;
+    assert_eq!(rt; ended, Moved::Played);
+    assert!(rt; turn.has_ended());
+    let released = turn.play(&yard, pass)?;
+    assert_eq!(rt; released, Moved::Ended);
+    assert_eq!(rt; yard.look(pass).used, 0);
     Ok(())
 }

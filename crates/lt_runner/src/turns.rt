@@ -11,7 +11,7 @@ ghost use Rattle.lt_runner.specs.AtOnce.{numbers_of, fresh_turn};
 ghost use Rattle.lt_seq.specs.Table.{Setting};
 ghost use Rattle.std.specs.Prelude.{List, ℕ, slice_set, slice_index_or};
 
-use crate::turn::Turn;
+use crate::at_once::Turn;
 use lt_history::Ended;
 use lt_trace::Line;
 use std::alloc::{AllocError, Global};

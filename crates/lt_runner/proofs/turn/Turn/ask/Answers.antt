@@ -1,0 +1,89 @@
+use Rattle.std.proofs.Common.{rules, ◌≡◌, List, [], None, Err, Ok, sym, ap, subst, ◌∙◌}
+use Rattle.lt_seq.specs.declared.event.Deed.TheVariants.{Ask}
+use Rattle.lt_seq.specs.declared.event.Reply.{Reply}
+use Rattle.lt_seq.specs.declared.event.Reply.TheVariants.{Granted}
+use Rattle.lt_seq.specs.declared.fault.Fault.{Fault}
+use Rattle.lt_seq.specs.declared.fault.Fault.TheVariants.{Busy, HistoryFull, OutOfLocks}
+use Rattle.lt_seq.specs.Yard.{AskAnswers}
+use Rattle.lt_history.specs.declared.outcome.Outcome.TheVariants.{OutOfLocks as StoppedAt}
+use Rattle.lt_runner.specs.TurnView.{Seat}
+use Rattle.lt_runner.specs.Turn.{asked_at, ending, reply_in}
+use Rattle.lt_runner.specs.Attempt.{bar_of}
+use Rattle.lt_runner.specs.Seats.{idle}
+use Rattle.lt_runner.specs.PlaysOn.{IsFit, IsNextAsk, PlaysOn}
+use Rattle.lt_runner.proofs.PlaysOnLaws.{plays_asked, plays_stopped, ask_refused, answer_of, fit_ended}
+use Rattle.lt_runner.proofs.turn.Turn.ask.Goals as goal
+
+pub returns-in_ok-replied-in-Ok-clause-plays : goal.returns-in_ok-replied-in-Ok-clause-plays
+returns-in_ok-replied-in-Ok-clause-plays g c =
+    let setting = g.Y.Yard.setting c.args.yard.now in
+    let old = g.Y.Pass.Pass.view c.args.pass.now in
+    let new = g.Y.Pass.Pass.view c.ask.new.pass in
+    let seat = c.args.self.now in
+    let tree = c.args.tree in
+    let range = c.args.range.now in
+    let rest = c.requires.line.0 in
+    let receipt = c.in-Ok.receipt in
+    let next : IsNextAsk seat.turn tree range c.args.line.now rest = record { lines = c.requires.line.1; asks_it = c.requires.asks; goes = c.requires.next.goes } in
+    let answers = subst (AskAnswers setting (bar_of setting seat.turn) old new seat.turn.txn (Ask tree range Granted)) c.in-Ok.is
+    (answer_of setting old new seat c.number.result c.is_big.result (Ask tree range Granted) c.ask.result c.number.ensures c.is_big.ensures c.ask.ensures.answer) in
+    let is : c.replied.new.self ≡ idle (asked_at seat.turn.lines (reply_in receipt.event.deed) None seat.turn) =
+    c.in_ok-replied-in-Ok.ensures.turn ∙ ap (λ (r : Reply). idle (asked_at seat.turn.lines r None seat.turn)) c.reply_in.ensures in
+    subst (PlaysOn setting [] old new seat) (sym is) (plays_asked setting [] old new seat tree range c.args.line.now rest receipt next c.requires.ready.sound answers)
+
+pub returns-in_ok-end_as-in-Err-OutOfLocks-clause-fit : goal.returns-in_ok-end_as-in-Err-OutOfLocks-clause-fit
+returns-in_ok-end_as-in-Err-OutOfLocks-clause-fit g c =
+    let setting = g.Y.Yard.setting c.args.yard.now in
+    let stop = c.in-Err-OutOfLocks in
+    subst (IsFit setting) (sym c.in_ok-end_as-in-Err-OutOfLocks.ensures.ended) (fit_ended setting c.args.self.now (StoppedAt stop.place stop.used) c.requires.fit)
+
+pub returns-in_ok-end_as-in-Err-OutOfLocks-clause-plays : goal.returns-in_ok-end_as-in-Err-OutOfLocks-clause-plays
+returns-in_ok-end_as-in-Err-OutOfLocks-clause-plays g c =
+    let setting = g.Y.Yard.setting c.args.yard.now in
+    let old = g.Y.Pass.Pass.view c.args.pass.now in
+    let new = g.Y.Pass.Pass.view c.ask.new.pass in
+    let seat = c.args.self.now in
+    let tree = c.args.tree in
+    let range = c.args.range.now in
+    let rest = c.requires.line.0 in
+    let stop = c.in-Err-OutOfLocks in
+    let next : IsNextAsk seat.turn tree range c.args.line.now rest = record { lines = c.requires.line.1; asks_it = c.requires.asks; goes = c.requires.next.goes } in
+    let result_is : c.ask.result ≡ Err (OutOfLocks stop.place stop.used) = stop.is ∙ ap (λ (f : Fault). Err f) stop.field-0-is in
+    let answers = subst (AskAnswers setting (bar_of setting seat.turn) old new seat.turn.txn (Ask tree range Granted)) result_is
+    (answer_of setting old new seat c.number.result c.is_big.result (Ask tree range Granted) c.ask.result c.number.ensures c.is_big.ensures c.ask.ensures.answer) in
+    subst (PlaysOn setting [] old new seat) (sym c.in_ok-end_as-in-Err-OutOfLocks.ensures.ended)
+    (plays_stopped setting [] old new seat tree range c.args.line.now rest stop.place stop.used next c.requires.ready.plan.trees c.requires.ready.sound answers)
+
+pub returns-in-Err-Busy-clause-plays : goal.returns-in-Err-Busy-clause-plays
+returns-in-Err-Busy-clause-plays g c =
+    let setting = g.Y.Yard.setting c.args.yard.now in
+    let old = g.Y.Pass.Pass.view c.args.pass.now in
+    let new = g.Y.Pass.Pass.view c.ask.new.pass in
+    let seat = c.args.self.now in
+    let tree = c.args.tree in
+    let range = c.args.range.now in
+    let rest = c.requires.line.0 in
+    let busy = c.in-Err-Busy in
+    let next : IsNextAsk seat.turn tree range c.args.line.now rest = record { lines = c.requires.line.1; asks_it = c.requires.asks; goes = c.requires.next.goes } in
+    let result_is : c.ask.result ≡ Err (Busy busy.row busy.holder) = busy.is ∙ ap (λ (f : Fault). Err f) busy.field-0-is in
+    let answers = subst (AskAnswers setting (bar_of setting seat.turn) old new seat.turn.txn (Ask tree range Granted)) result_is
+    (answer_of setting old new seat c.number.result c.is_big.result (Ask tree range Granted) c.ask.result c.number.ensures c.is_big.ensures c.ask.ensures.answer) in
+    subst (PlaysOn setting [] old new seat) (sym c.give_way.ensures)
+    (ask_refused setting [] old new seat tree range c.args.line.now rest (Busy busy.row busy.holder) next c.requires.next (λ never. never) c.requires.ready.sound answers)
+
+pub returns-in-Err-HistoryFull-clause-plays : goal.returns-in-Err-HistoryFull-clause-plays
+returns-in-Err-HistoryFull-clause-plays g c =
+    let setting = g.Y.Yard.setting c.args.yard.now in
+    let old = g.Y.Pass.Pass.view c.args.pass.now in
+    let new = g.Y.Pass.Pass.view c.ask.new.pass in
+    let seat = c.args.self.now in
+    let tree = c.args.tree in
+    let range = c.args.range.now in
+    let rest = c.requires.line.0 in
+    let full = c.in-Err-HistoryFull in
+    let next : IsNextAsk seat.turn tree range c.args.line.now rest = record { lines = c.requires.line.1; asks_it = c.requires.asks; goes = c.requires.next.goes } in
+    let result_is : c.ask.result ≡ Err (HistoryFull full.place) = full.is ∙ ap (λ (f : Fault). Err f) full.field-0-is in
+    let answers = subst (AskAnswers setting (bar_of setting seat.turn) old new seat.turn.txn (Ask tree range Granted)) result_is
+    (answer_of setting old new seat c.number.result c.is_big.result (Ask tree range Granted) c.ask.result c.number.ensures c.is_big.ensures c.ask.ensures.answer) in
+    subst (PlaysOn setting [] old new seat) (sym c.give_way-in-Err-HistoryFull.ensures)
+    (ask_refused setting [] old new seat tree range c.args.line.now rest (HistoryFull full.place) next c.requires.next (λ never. never) c.requires.ready.sound answers)

@@ -1,0 +1,18 @@
+use Rattle.std.proofs.Common.{◌≡◌, ◌+◌, [], length, IsTrue, is_some, false}
+use Rattle.lt_seq.specs.Yard.{origin_of}
+use Rattle.lt_runner.specs.PlaysOn.{IsReady, IsFit, PlaysOn}
+use Rattle.lt_runner.proofs.turn.Turn.release.Given as goal
+
+-- it was played so far, and as many frees are left as turns of the loop
+abbrev pub invariant-loop-free : goal.invariant-loop-free
+invariant-loop-free g l =
+    let view = g.Y.Pass.Pass.view in
+    let setting = g.Y.Yard.setting l.yard in
+    record {
+      of : g.Y.Pass.Pass.origin l.pass ≡ origin_of (g.Y.Yard.identity l.yard) setting;
+      ready : IsReady setting (view l.pass);
+      fit : IsFit setting l.self;
+      turn : l.self.turn ≡ record l.fn.self.turn { releases = l.self.turn.releases };
+      left : length l.self.turn.releases + l._free ≡ length l.fn.self.turn.releases;
+      plays : PlaysOn setting [] (view l.fn.pass) (view l.pass) l.fn.self l.self;
+    }
