@@ -36,25 +36,25 @@ keeps_answered setting old new txn deed result answers = record { rights = answe
 keeps_asked : (setting : Setting) (bar : ℕ) (old new : PassView) (txn : ℕ) (deed : Deed) (result : Result Receipt Fault) → AskAnswers setting bar old new txn deed result → Keeps setting old new
 keeps_asked setting bar old new txn deed result answers = record { rights = answers.rights; goes = λ sound. answers.goes }
 
-keeps_failed : (setting : Setting) (txn : ℕ) (old new : PassView) (fault : Fault) → HasFailed setting txn old new fault → Keeps setting old new
-keeps_failed setting txn old new fault (inl short) = keeps_itself setting old new short.0
-keeps_failed setting txn old new fault (inr by) = keeps_answered setting old new txn _ (Err fault) by.1
+keeps_failed : (setting : Setting) (txn : ℕ) (left : List Wish) (old new : PassView) (fault : Fault) → HasFailed setting txn left old new fault → Keeps setting old new
+keeps_failed setting txn left old new fault (inl short) = keeps_itself setting old new short.0
+keeps_failed setting txn left old new fault (inr by) = keeps_answered setting old new txn _ (Err fault) by.3
 
-keeps_cut : (setting : Setting) (txn : ℕ) (old new : PassView) (fault : Fault) → IsCutShort setting txn old new fault → Keeps setting old new
-keeps_cut setting txn old new fault cut = keeps_then setting old cut.last new (keeps_made setting old cut.last txn cut.receipts cut.made) (keeps_failed setting txn cut.last new fault cut.failed)
+keeps_cut : (setting : Setting) (txn : ℕ) (wishes : List Wish) (owners : List ℕ) (old new : PassView) (fault : Fault) → IsCutShort setting txn wishes owners old new fault → Keeps setting old new
+keeps_cut setting txn wishes owners old new fault cut = keeps_then setting old cut.last new (keeps_made setting old cut.last txn cut.receipts cut.made) (keeps_failed setting txn cut.left cut.last new fault cut.failed)
 
 keeps_searched : (setting : Setting) (bar : ℕ) (wish : Wish) (wishes : List Wish) (old new : PassView) (owners : List ℕ) (found : Option (List Edge)) → IsSearched setting bar wish wishes old new owners found → Keeps setting old new
 keeps_searched setting bar wish wishes old new owners found is =
     keeps_then setting old is.asked new (keeps_asked setting bar old is.asked wish.txn (deed_for wish) (Ok is.ask) is.held.answers) (keeps_made setting is.asked new wish.txn is.searched.receipts is.searched.made)
 
-keeps_fault : (setting : Setting) (bar : ℕ) (wish : Wish) (old new : PassView) (fault : Fault) → HasFault setting bar wish old new fault → Keeps setting old new
-keeps_fault setting bar wish old new fault (inl short) = keeps_itself setting old new short.0
-keeps_fault setting bar wish old new fault (inr (inl answers)) = keeps_asked setting bar old new wish.txn (deed_for wish) (Err fault) answers
-keeps_fault setting bar wish old new fault (inr (inr cut)) =
-    keeps_then setting old cut.asked new (keeps_asked setting bar old cut.asked wish.txn (deed_for wish) (Ok cut.ask) cut.held.answers) (keeps_cut setting wish.txn cut.asked new fault cut.cut)
+keeps_fault : (setting : Setting) (bar : ℕ) (wish : Wish) (wishes : List Wish) (old new : PassView) (fault : Fault) → HasFault setting bar wish wishes old new fault → Keeps setting old new
+keeps_fault setting bar wish wishes old new fault (inl short) = keeps_itself setting old new short.0
+keeps_fault setting bar wish wishes old new fault (inr (inl answers)) = keeps_asked setting bar old new wish.txn (deed_for wish) (Err fault) answers
+keeps_fault setting bar wish wishes old new fault (inr (inr cut)) =
+    keeps_then setting old cut.asked new (keeps_asked setting bar old cut.asked wish.txn (deed_for wish) (Ok cut.ask) cut.held.answers) (keeps_cut setting wish.txn wishes cut.owners cut.asked new fault cut.cut)
 
 pub keeps_started : (setting : Setting) (bar : ℕ) (wish : Wish) (others waiting before : List Wish) (old new : PassView) (after : List Wish) (result : Result Started Fault) → IsStarted setting bar wish others waiting before old new after result → Keeps setting old new
 keeps_started setting bar wish others waiting before old new after (Ok (StartedGranted place buffered)) is = keeps_asked setting bar old new wish.txn (deed_for wish) (Ok (is.0).ask) (is.0).answers
 keeps_started setting bar wish others waiting before old new after (Ok (Waits owners)) is = keeps_searched setting bar wish waiting old new owners None is.0
 keeps_started setting bar wish others waiting before old new after (Ok (Deadlock walk)) is = keeps_searched setting bar wish waiting old new (is.0).0 (Some walk) (is.0).1
-keeps_started setting bar wish others waiting before old new after (Err fault) is = keeps_fault setting bar wish old new fault is.0
+keeps_started setting bar wish others waiting before old new after (Err fault) is = keeps_fault setting bar wish waiting old new fault is.0

@@ -22,7 +22,7 @@ use Rattle.lt_seq.proofs.RefusalLaws.{others_increase}
 use Rattle.lt_requests.specs.declared.wish.Wish.{Wish}
 use Rattle.lt_requests.specs.declared.cycle.Edge.{Edge}
 use Rattle.lt_requests.specs.Registered.{may_ask, MayAsk}
-use Rattle.lt_requests.specs.Search.{IsSearch, wishes_of, new_wishes, question_for, edges_in, edges_of, waiter_in}
+use Rattle.lt_requests.specs.Search.{IsSearch, Reaches, wishes_of, new_wishes, question_for, edges_in, edges_of, waiter_in}
 use Rattle.lt_requests.specs.Walks.{cycle_of}
 use Rattle.lt_requests.specs.Started.{AreMade, HasSearched, IsCutShort, IsAskedFor, HasNoAnswer, IsGoing}
 
@@ -68,19 +68,39 @@ drop_at listed next wish below here = rw add-one (subst (λ (w : Wish). drop nex
 take_at : (listed : List Wish) (next : ℕ) (wish : Wish) → next < length listed → wish ≡ get_or listed next wish → take (next + 1) listed ≡ take next listed ++ wish ∷ []
 take_at listed next wish below here = subst (λ (w : Wish). take (next + 1) listed ≡ take next listed ++ w ∷ []) (sym here) (take_more listed next wish below)
 
--- a question more, where the rest goes on
-searches_more : (txn : ℕ) (wishes listed now more_listed : List Wish) (next : ℕ) (wish : Wish) (r : Receipt) (rs : List Receipt) → next < length listed → wish ≡ get_or listed next wish → question r.event.deed ≡ question_for wish → now ≡ listed ++ more_listed → more_listed ≡ new_wishes txn listed (wishes_of (named_in r.event.deed) wishes) →
-    IsSearch txn wishes (take (next + 1) now) (drop (next + 1) now) rs → IsSearch txn wishes (take next listed) (drop next listed) (r ∷ rs)
-searches_more txn wishes listed now more_listed next wish r rs below here asks is new goes =
+-- a question more
+reaches_more : (txn : ℕ) (wishes done listed done_now left : List Wish) (rs : List Receipt) (wish : Wish) (rest : List Wish) (r : Receipt) → Reaches txn wishes done listed rs done_now left → left ≡ wish ∷ rest → question r.event.deed ≡ question_for wish →
+    Reaches txn wishes done listed (rs ++ r ∷ []) (done_now ++ wish ∷ []) (rest ++ new_wishes txn (done_now ++ wish ∷ rest) (wishes_of (named_in r.event.deed) wishes))
+reaches_more txn wishes done listed done_now left [] wish rest r at here asks =
+    let first : listed ≡ wish ∷ rest = sym at.1 ∙ here in
+    subst (λ l. Reaches txn wishes done l (r ∷ []) (done_now ++ wish ∷ []) (rest ++ new_wishes txn (done_now ++ wish ∷ rest) (wishes_of (named_in r.event.deed) wishes))) (sym first)
+    (asks, (ap (λ l. l ++ wish ∷ []) at.0, ap (λ l. rest ++ new_wishes txn (l ++ wish ∷ rest) (wishes_of (named_in r.event.deed) wishes)) at.0))
+reaches_more txn wishes done [] done_now left (x ∷ xs) wish rest r at here asks = absurd at
+reaches_more txn wishes done (w ∷ ws) done_now left (x ∷ xs) wish rest r at here asks =
+    (at.0, reaches_more txn wishes (done ++ w ∷ []) (ws ++ new_wishes txn (done ++ w ∷ ws) (wishes_of (named_in x.event.deed) wishes)) done_now left xs wish rest r at.1 here asks)
+
+-- the lists behind a question of the next one listed
+reaches_next : (txn : ℕ) (wishes first listed now : List Wish) (next : ℕ) (rs : List Receipt) (wish : Wish) (r : Receipt) → next < length listed → wish ≡ get_or listed next wish → question r.event.deed ≡ question_for wish → now ≡ listed ++ new_wishes txn listed (wishes_of (named_in r.event.deed) wishes) →
+    Reaches txn wishes [] first rs (take next listed) (drop next listed) → Reaches txn wishes [] first (rs ++ r ∷ []) (take (next + 1) now) (drop (next + 1) now)
+reaches_next txn wishes first listed now next rs wish r below here asks is at =
     let done = take next listed in
     let rest = drop (next + 1) listed in
+    let new = new_wishes txn listed (wishes_of (named_in r.event.deed) wishes) in
     let whole : done ++ wish ∷ rest ≡ listed = ap (λ l. done ++ l) (sym (drop_at listed next wish below here)) ∙ parts next listed in
-    let taken : take (next + 1) now ≡ done ++ wish ∷ [] = ap (take (next + 1)) is ∙ take-append-le (next + 1) listed more_listed (omega arith) ∙ take_at listed next wish below here in
+    let taken : take (next + 1) now ≡ done ++ wish ∷ [] = ap (take (next + 1)) is ∙ take-append-le (next + 1) listed new (omega arith) ∙ take_at listed next wish below here in
     let dropped : drop (next + 1) now ≡ rest ++ new_wishes txn (done ++ wish ∷ rest) (wishes_of (named_in r.event.deed) wishes) =
-    ap (drop (next + 1)) is ∙ drop-append-le (next + 1) listed more_listed (omega arith) ∙ ap (λ l. rest ++ l) new
+    ap (drop (next + 1)) is ∙ drop-append-le (next + 1) listed new (omega arith)
     ∙ ap (λ l. rest ++ new_wishes txn l (wishes_of (named_in r.event.deed) wishes)) (sym whole) in
-    subst (λ l. IsSearch txn wishes done l (r ∷ rs)) (sym (drop_at listed next wish below here))
-    (asks, subst (λ l. IsSearch txn wishes (done ++ wish ∷ []) l rs) dropped (subst (λ l. IsSearch txn wishes l (drop (next + 1) now) rs) taken goes))
+    subst (λ l. Reaches txn wishes [] first (rs ++ r ∷ []) l (drop (next + 1) now)) (sym taken)
+    (subst (λ l. Reaches txn wishes [] first (rs ++ r ∷ []) (done ++ wish ∷ []) l) (sym dropped)
+    (reaches_more txn wishes [] first done (drop next listed) rs wish rest r at (drop_at listed next wish below here) asks))
+
+-- where none is left it is the whole search
+reaches_end : (txn : ℕ) (wishes done listed done_now left : List Wish) (rs : List Receipt) → Reaches txn wishes done listed rs done_now left → left ≡ [] → IsSearch txn wishes done listed rs
+reaches_end txn wishes done listed done_now left [] at none = subst (λ l. IsSearch txn wishes done l []) (sym (sym at.1 ∙ none)) tt
+reaches_end txn wishes done [] done_now left (r ∷ rs) at none = absurd at
+reaches_end txn wishes done (w ∷ ws) done_now left (r ∷ rs) at none =
+    (at.0, reaches_end txn wishes (done ++ w ∷ []) (ws ++ new_wishes txn (done ++ w ∷ ws) (wishes_of (named_in r.event.deed) wishes)) done_now left rs at.1 none)
 
 edges_more : (wishes : List Wish) (rs : List Receipt) (r : Receipt) → edges_in wishes (rs ++ r ∷ []) ≡ edges_in wishes rs ++ edges_of (waiter_in r r.event.deed) r.place (wishes_of (named_in r.event.deed) wishes)
 edges_more wishes rs r =
@@ -94,9 +114,7 @@ going_more setting txn wishes first old mid new listed now next begun edges edge
     record {
       receipts = going.receipts ++ r ∷ [];
       made = made_more setting old mid new txn going.receipts r going.made (one_made setting mid new txn wish r asked.happens);
-      goes_on = λ rs goes.
-          let more = searches_more txn wishes listed now (new_wishes txn listed (wishes_of (named_in r.event.deed) wishes)) next wish r rs below here (asks_the setting mid new txn wish r asked.happens) asked.listed_is refl goes in
-          subst (λ l. IsSearch txn wishes [] first l) (sym (append_assoc going.receipts (r ∷ []) rs)) (going.goes_on (r ∷ rs) more);
+      reaches = reaches_next txn wishes first listed now next going.receipts wish r below here (asks_the setting mid new txn wish r asked.happens) asked.listed_is going.reaches;
       edges_are = asked.edges_is
           ∙ ap (λ l. l ++ edges_of wish.txn r.place (wishes_of (named_in r.event.deed) wishes)) going.edges_are
           ∙ append_assoc begun (edges_in wishes going.receipts) (edges_of wish.txn r.place (wishes_of (named_in r.event.deed) wishes))
@@ -107,7 +125,7 @@ pub going_first : (setting : Setting) (txn : ℕ) (wishes first : List Wish) (ol
 going_first setting txn wishes first old listed begun edges same drawn = record {
   receipts = [];
   made = refl;
-  goes_on = λ rs goes. subst (λ l. IsSearch txn wishes [] l rs) same goes;
+  reaches = (refl, same);
   edges_are = drawn ∙ sym (append-nil begun);
 }
 
@@ -115,25 +133,47 @@ pub going_ends : (setting : Setting) (txn : ℕ) (wishes : List Wish) (owners : 
 going_ends setting txn wishes owners place old new listed next edges found going all is = record {
   receipts = going.receipts;
   made = going.made;
-  is_search = subst (λ l. IsSearch txn wishes [] (wishes_of owners wishes) l) (append-nil going.receipts)
-      (going.goes_on [] (subst (λ l. IsSearch txn wishes (take next listed) l []) (sym (drop_all next listed all)) tt));
+  is_search = reaches_end txn wishes [] (wishes_of owners wishes) (take next listed) (drop next listed) going.receipts going.reaches (drop_all next listed all);
   walk = is ∙ ap (λ l. cycle_of l txn) going.edges_are;
 }
 
-pub cut_by : (setting : Setting) (txn : ℕ) (wishes first : List Wish) (old mid new : PassView) (listed : List Wish) (next : ℕ) (begun edges : List Edge) (wish : Wish) (fault : Fault) → IsGoing setting txn wishes first old mid listed next begun edges → HasNoAnswer setting txn wish mid new fault → IsCutShort setting txn old new fault
-cut_by setting txn wishes first old mid new listed next begun edges wish fault going (inl short) = record {
-  receipts = going.receipts ++ short.0 ∷ [];
-  last = new;
-  made = made_more setting old mid new txn going.receipts short.0 going.made (one_made setting mid new txn wish short.0 short.1);
-  failed = inl (refl, short.2);
+pub cut_by : (setting : Setting) (txn : ℕ) (wishes : List Wish) (owners : List ℕ) (old mid new : PassView) (listed : List Wish) (next : ℕ) (begun edges : List Edge) (wish : Wish) (fault : Fault) → next < length listed → wish ≡ get_or listed next wish →
+    IsGoing setting txn wishes (wishes_of owners wishes) old mid listed next begun edges → HasNoAnswer setting txn wish mid new fault → IsCutShort setting txn wishes owners old new fault
+cut_by setting txn wishes owners old mid new listed next begun edges wish fault below here going (inl short) =
+    let r = short.0 in
+    let now = listed ++ new_wishes txn listed (wishes_of (named_in r.event.deed) wishes) in
+    record {
+      receipts = going.receipts ++ r ∷ [];
+      last = new;
+      made = made_more setting old mid new txn going.receipts r going.made (one_made setting mid new txn wish r short.1);
+      done = take (next + 1) now;
+      left = drop (next + 1) now;
+      reaches = reaches_next txn wishes (wishes_of owners wishes) listed now next going.receipts wish r below here (asks_the setting mid new txn wish r short.1) refl going.reaches;
+      failed = inl (refl, short.2);
+    }
+cut_by setting txn wishes owners old mid new listed next begun edges wish fault below here going (inr answers) = record {
+  receipts = going.receipts;
+  last = mid;
+  made = going.made;
+  done = take next listed;
+  left = drop next listed;
+  reaches = going.reaches;
+  failed = inr (wish, drop (next + 1) listed, drop_at listed next wish below here, answers);
 }
-cut_by setting txn wishes first old mid new listed next begun edges wish fault going (inr answers) = record { receipts = going.receipts; last = mid; made = going.made; failed = inr (wish, answers) }
 
-pub cut_short : (setting : Setting) (txn : ℕ) (wishes first : List Wish) (old new : PassView) (listed : List Wish) (next : ℕ) (begun edges : List Edge) → IsGoing setting txn wishes first old new listed next begun edges → IsCutShort setting txn old new OutOfMemory
-cut_short setting txn wishes first old new listed next begun edges going = record { receipts = going.receipts; last = new; made = going.made; failed = inl (refl, refl) }
+pub cut_short : (setting : Setting) (txn : ℕ) (wishes : List Wish) (owners : List ℕ) (old new : PassView) (listed : List Wish) (next : ℕ) (begun edges : List Edge) → IsGoing setting txn wishes (wishes_of owners wishes) old new listed next begun edges → IsCutShort setting txn wishes owners old new OutOfMemory
+cut_short setting txn wishes owners old new listed next begun edges going = record {
+  receipts = going.receipts;
+  last = new;
+  made = going.made;
+  done = take next listed;
+  left = drop next listed;
+  reaches = going.reaches;
+  failed = inl (refl, refl);
+}
 
-pub cut_at_once : (setting : Setting) (txn : ℕ) (old : PassView) → IsCutShort setting txn old old OutOfMemory
-cut_at_once setting txn old = record { receipts = []; last = old; made = refl; failed = inl (refl, refl) }
+pub cut_at_once : (setting : Setting) (txn : ℕ) (wishes : List Wish) (owners : List ℕ) (old : PassView) → IsCutShort setting txn wishes owners old old OutOfMemory
+cut_at_once setting txn wishes owners old = record { receipts = []; last = old; made = refl; done = []; left = wishes_of owners wishes; reaches = (refl, refl); failed = inl (refl, refl) }
 
 -- Whom the ask named.
 

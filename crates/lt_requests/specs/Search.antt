@@ -32,6 +32,14 @@ IsSearch txn wishes done (w ∷ ws) (r ∷ rs) =
     (question r.event.deed ≡ question_for w)
     × IsSearch txn wishes (done ++ w ∷ []) (ws ++ new_wishes txn (done ++ w ∷ ws) (wishes_of (named_in r.event.deed) wishes)) rs
 
+-- The search comes from those done and those listed to these, by its events so far.
+abbrev pub Reaches : ℕ → List Wish → List Wish → List Wish → List Receipt → List Wish → List Wish → Type 0
+Reaches txn wishes done listed [] done_now left = (done_now ≡ done) × (left ≡ listed)
+Reaches txn wishes done [] (r ∷ rs) done_now left = ⊥
+Reaches txn wishes done (w ∷ ws) (r ∷ rs) done_now left =
+    (question r.event.deed ≡ question_for w)
+    × Reaches txn wishes (done ++ w ∷ []) (ws ++ new_wishes txn (done ++ w ∷ ws) (wishes_of (named_in r.event.deed) wishes)) rs done_now left
+
 -- The same search by one pass alone behind these events. No wish is asked for twice, so there are no more questions than wishes.
 abbrev pub searched : Setting → ℕ → List Wish → List Wish → List Event → List Wish → List Wish → List Receipt
 searched setting txn wishes [] events done listed = []

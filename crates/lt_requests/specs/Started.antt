@@ -14,7 +14,7 @@ use Rattle.lt_requests.specs.declared.wish.Wish.{Wish}
 use Rattle.lt_requests.specs.declared.cycle.Edge.{Edge}
 use Rattle.lt_requests.specs.declared.started.Started.{Started}
 use Rattle.lt_requests.specs.declared.started.Started.TheVariants.{Granted as StartedGranted, Waits, Deadlock}
-use Rattle.lt_requests.specs.Search.{IsSearch, wishes_of, new_wishes, question_for, edges_in, edges_of}
+use Rattle.lt_requests.specs.Search.{IsSearch, Reaches, wishes_of, new_wishes, question_for, edges_in, edges_of}
 use Rattle.lt_requests.specs.Registered.{without}
 use Rattle.lt_requests.specs.Walks.{cycle_of}
 
@@ -37,21 +37,26 @@ pub record HasSearched (setting : Setting) (txn : ℕ) (wishes : List Wish) (pla
   pub is_search : IsSearch txn wishes [] (wishes_of owners wishes) receipts
   pub walk : found ≡ cycle_of (edges_of txn place (wishes_of owners wishes) ++ edges_in wishes receipts) txn
 
--- The last call of a search gave the fault, or memory was short behind the calls that were made.
-abbrev pub HasFailed : Setting → ℕ → PassView → PassView → Fault → Type 0
-HasFailed setting txn old new fault = ((new ≡ old) × (fault ≡ OutOfMemory)) ⊎ ((wish : Wish) × Answers setting old new txn (question_for wish) (Err fault))
+-- The question for the next of those left gave the fault, or memory was short behind the calls that were made.
+abbrev pub HasFailed : Setting → ℕ → List Wish → PassView → PassView → Fault → Type 0
+HasFailed setting txn left old new fault =
+    ((new ≡ old) × (fault ≡ OutOfMemory)) ⊎ ((wish : Wish) × (more : List Wish) × (left ≡ wish ∷ more) × Answers setting old new txn (question_for wish) (Err fault))
 
--- a search that a fault has cut short: the events that it made stand
-pub record IsCutShort (setting : Setting) (txn : ℕ) (old new : PassView) (fault : Fault) : Type 0 where
+-- A search that a fault has cut short: its events so far are the pass's own, and are those of a search. They stand.
+pub record IsCutShort (setting : Setting) (txn : ℕ) (wishes : List Wish) (owners : List ℕ) (old new : PassView) (fault : Fault) : Type 0 where
   pub receipts : List Receipt
   -- the pass behind them
   pub last : PassView
   pub made : AreMade setting old last txn receipts
-  pub failed : HasFailed setting txn last new fault
+  -- who was asked for, and who was left
+  pub done : List Wish
+  pub left : List Wish
+  pub reaches : Reaches txn wishes [] (wishes_of owners wishes) receipts done left
+  pub failed : HasFailed setting txn left last new fault
 
 abbrev pub SearchAnswers : Setting → ℕ → List Wish → ℕ → List ℕ → PassView → PassView → Result (Option (List Edge)) Fault → Type 0
 SearchAnswers setting txn wishes place owners old new (Ok found) = HasSearched setting txn wishes place owners old new found
-SearchAnswers setting txn wishes place owners old new (Err fault) = IsCutShort setting txn old new fault
+SearchAnswers setting txn wishes place owners old new (Err fault) = IsCutShort setting txn wishes owners old new fault
 
 -- One question of a search, and what is listed and drawn by its answer.
 pub record IsAskedFor (setting : Setting) (txn : ℕ) (wish : Wish) (wishes : List Wish) (old new : PassView) (listed : List Wish) (edges : List Edge) (listed_now : List Wish) (edges_now : List Edge) : Type 0 where
@@ -69,7 +74,7 @@ HasNoAnswer setting txn wish old new fault =
 pub record IsGoing (setting : Setting) (txn : ℕ) (wishes first : List Wish) (old now : PassView) (listed : List Wish) (next : ℕ) (begun edges : List Edge) : Type 0 where
   pub receipts : List Receipt
   pub made : AreMade setting old now txn receipts
-  pub goes_on : (more : List Receipt) → IsSearch txn wishes (take next listed) (drop next listed) more → IsSearch txn wishes [] first (receipts ++ more)
+  pub reaches : Reaches txn wishes [] first receipts (take next listed) (drop next listed)
   pub edges_are : edges ≡ begun ++ edges_in wishes receipts
 
 -- Starts and retries.
@@ -104,24 +109,24 @@ pub record IsSearched (setting : Setting) (bar : ℕ) (wish : Wish) (wishes : Li
   pub searched : HasSearched setting wish.txn wishes ask.place owners asked new found
 
 -- it was held, and its search was cut short
-pub record IsCutAsk (setting : Setting) (bar : ℕ) (wish : Wish) (old new : PassView) (fault : Fault) : Type 0 where
+pub record IsCutAsk (setting : Setting) (bar : ℕ) (wish : Wish) (wishes : List Wish) (old new : PassView) (fault : Fault) : Type 0 where
   pub owners : List ℕ
   pub ask : Receipt
   pub asked : PassView
   pub held : IsHeld setting bar wish old asked ask owners
-  pub cut : IsCutShort setting wish.txn asked new fault
+  pub cut : IsCutShort setting wish.txn wishes owners asked new fault
 
 -- what is left of a registry behind a held ask and its search, whose event had this place and named the owners
 abbrev pub IsHeldAnswer : Setting → ℕ → ℕ → List ℕ → List Wish → PassView → PassView → List Wish → Result Started Fault → Type 0
 IsHeldAnswer setting txn place owners before old new after (Ok (StartedGranted p buffered)) = ⊥
 IsHeldAnswer setting txn place owners before old new after (Ok (Waits named)) = (named ≡ owners) × HasSearched setting txn before place owners old new None × (after ≡ before)
 IsHeldAnswer setting txn place owners before old new after (Ok (Deadlock walk)) = HasSearched setting txn before place owners old new (Some walk) × (after ≡ without txn before)
-IsHeldAnswer setting txn place owners before old new after (Err fault) = IsCutShort setting txn old new fault × (after ≡ before)
+IsHeldAnswer setting txn place owners before old new after (Err fault) = IsCutShort setting txn before owners old new fault × (after ≡ before)
 
 -- why there was no answer: memory was short at once, the ask gave the fault, or its search was cut short
-abbrev pub HasFault : Setting → ℕ → Wish → PassView → PassView → Fault → Type 0
-HasFault setting bar wish old new fault =
-    ((new ≡ old) × (fault ≡ OutOfMemory)) ⊎ (AskAnswers setting bar old new wish.txn (deed_for wish) (Err fault) ⊎ IsCutAsk setting bar wish old new fault)
+abbrev pub HasFault : Setting → ℕ → Wish → List Wish → PassView → PassView → Fault → Type 0
+HasFault setting bar wish wishes old new fault =
+    ((new ≡ old) × (fault ≡ OutOfMemory)) ⊎ (AskAnswers setting bar old new wish.txn (deed_for wish) (Err fault) ⊎ IsCutAsk setting bar wish wishes old new fault)
 
 -- The answer: granted, and it does not wait; held, with no closed walk through it, and it waits; held with one, and it does
 -- not wait; or a fault, and the registry is as before. `waiting` are all wishes with its own, and `others` those without it.
@@ -129,7 +134,7 @@ abbrev pub IsStarted : Setting → ℕ → Wish → List Wish → List Wish → 
 IsStarted setting bar wish others waiting before old new after (Ok (StartedGranted place buffered)) = IsGranted setting bar wish old new place buffered × (after ≡ others)
 IsStarted setting bar wish others waiting before old new after (Ok (Waits owners)) = IsSearched setting bar wish waiting old new owners None × (after ≡ waiting)
 IsStarted setting bar wish others waiting before old new after (Ok (Deadlock walk)) = ((owners : List ℕ) × IsSearched setting bar wish waiting old new owners (Some walk)) × (after ≡ others)
-IsStarted setting bar wish others waiting before old new after (Err fault) = HasFault setting bar wish old new fault × (after ≡ before)
+IsStarted setting bar wish others waiting before old new after (Err fault) = HasFault setting bar wish waiting old new fault × (after ≡ before)
 
 -- What a start or a retry keeps, whatever it answers: the pass keeps its rights, and where it was sound it has seen no less and is sound.
 pub record Keeps (setting : Setting) (old new : PassView) : Type 0 where

@@ -1,6 +1,7 @@
 use Rattle.std.proofs.Common.{sym, subst, ap, ◌∙◌, refl}
 use Rattle.lt_requests.specs.Registered.{MayAsk, with_wish, without}
 use Rattle.lt_seq.specs.Yard.{bar_for}
+use Rattle.lt_requests.specs.Started.{HasFault}
 use Rattle.lt_requests.proofs.KeepLaws.{keeps_started, keeps_itself}
 use Rattle.lt_requests.proofs.StartLaws.{may_with, may_without, may_after, started_by, out_again}
 use Rattle.lt_requests.proofs.asking.start.Goals as goal
@@ -35,7 +36,7 @@ returns-in-Err-ask_for-clause-may g c =
 pub returns-in-Err-ask_for-clause-answer : goal.returns-in-Err-ask_for-clause-answer
 returns-in-Err-ask_for-clause-answer g c =
     let is = c.in-Err-ask_for.ensures.answer in
-    (is.0, c.forget.ensures.left ∙ ap (without c.args.wish.now.txn) (is.1 ∙ c.in_default.ensures) ∙ out_again c.args.wish.now c.args.registry.now c.requires.absent)
+    (subst (λ l. HasFault (g.Y.Yard.setting c.args.yard.now) (bar_for (g.Y.Yard.setting c.args.yard.now) c.args.big) c.args.wish.now l (g.Y.Pass.Pass.view c.args.pass.now) (g.Y.Pass.Pass.view c.ask_for.new.pass) c.in-Err-ask_for.fault) c.in_default.ensures is.0, c.forget.ensures.left ∙ ap (without c.args.wish.now.txn) (is.1 ∙ c.in_default.ensures) ∙ out_again c.args.wish.now c.args.registry.now c.requires.absent)
 
 pub returns-in-Ok-clause-keeps : goal.returns-in-Ok-clause-keeps
 returns-in-Ok-clause-keeps g c =

@@ -22,7 +22,8 @@ loop-next-init g c =
     }
 
 pub returns-in-Err-ask_for-clause-answer : goal.returns-in-Err-ask_for-clause-answer
-returns-in-Err-ask_for-clause-answer g c = cut_by _ _ _ _ _ _ _ _ _ _ _ c.index.result.now _ c.loop-next.invariant.going c.in-Err-ask_for.ensures.fault
+returns-in-Err-ask_for-clause-answer g c =
+    cut_by _ _ _ c.args.owners.now _ _ _ c.loop-next.questions.listed.items c.loop-next.next _ _ c.index.result.now _ (omega (arith, c.loop-next-test.true, c.len.ensures)) c.index.ensures c.loop-next.invariant.going c.in-Err-ask_for.ensures.fault
 
 pub loop-next-smaller : goal.loop-next-smaller
 loop-next-smaller g c = omega (arith, listed_fewer _ _ _ c.loop-next.invariant.kept, c.loop-next-test.true, c.len.ensures)
