@@ -1,6 +1,8 @@
 -- Wishes that ascend by transaction: where one stands, and what an edit there does.
-use Rattle.std.proofs.Common.{◌≡◌, ℕ, zero, suc, ◌+◌, ◌≤◌, ◌<◌, List, [], ◌∷◌, length, get_or, Bool, true, false, cond, not, ◌||◌, eqb, ltb, leb, Some, None, Result, Ok, Err, IfOk, IfErr, refl, sym, ap, subst, ◌∙◌, inl, inr, arith}
-use Rattle.std.specs.Prelude.{filter, slice_index}
+use Rattle.std.proofs.Common.{◌≡◌, ℕ, zero, suc, ◌+◌, ◌≤◌, ◌<◌, List, [], ◌∷◌, ◌++◌, append-nil, append_assoc, length, get_or, Bool, true, false, cond, not, ◌||◌, eqb, ltb, leb, Some, None, Result, Ok, Err, IfOk, IfErr, refl, sym, ap, subst, ◌∙◌, inl, inr, arith}
+use Rattle.std.specs.Prelude.{filter, fold, slice_index}
+use Rattle.std.specs.List.{AllByRecursion}
+use Rattle.lt_ranges.specs.Numbers.{with_number, ascending}
 use Rattle.std.specs.List.Sorted.{IsStrictlyIncreasing, IsSearchInRange, IsBinarySearchResult, IsNonDecreasingBy, IsPartitionPoint}
 use Rattle.std.specs.Ordering.{nat_cmp, ordering_index}
 use Rattle.std.proofs.lemmas.Cmp.{ranked}
@@ -226,3 +228,50 @@ not_decreasing ws ascend i j d le below = elim (cases_lt i j) [
   | inl less ↦ (let h : (get_or ws i d).txn < (get_or ws j d).txn = increases_at ws (rises_from (txns_of ws) ascend) i j d less below in omega (arith, h))
   | inr more ↦ (let same : i ≡ j = omega (arith, le, more) in subst (λ k. (get_or ws i d).txn ≤ (get_or ws k d).txn) same (omega arith))
 ]
+
+-- Numbers that rise are their own ascending list.
+
+with_last : (n : ℕ) (xs : List ℕ) → AllByRecursion (λ x. x < n) xs → with_number n xs ≡ xs ++ n ∷ []
+with_last n [] all = refl
+with_last n (x ∷ xs) all =
+    ap (λ b. cond b (n ∷ x ∷ xs) (cond (eqb n x) (x ∷ xs) (x ∷ with_number n xs))) (not_ltb n x (omega (arith, all.0)))
+    ∙ ap (λ b. cond b (x ∷ xs) (x ∷ with_number n xs)) (ne_eqb n x (λ same. omega (arith, all.0, same)))
+    ∙ ap (λ l. x ∷ l) (with_last n xs all.1)
+
+all_last : (n : ℕ) (xs : List ℕ) (x : ℕ) → AllByRecursion (λ y. y < n) xs → x < n → AllByRecursion (λ y. y < n) (xs ++ x ∷ [])
+all_last n [] x all less = (less, tt)
+all_last n (y ∷ ys) x all less = (all.0, all_last n ys x all.1 less)
+
+-- each of the list is below each of the others
+abbrev AllBelow : List ℕ → List ℕ → Type 0
+AllBelow acc [] = Unit {0}
+AllBelow acc (x ∷ xs) = AllByRecursion (λ y. y < x) acc × AllBelow acc xs
+
+below_last : (acc : List ℕ) (x : ℕ) (xs : List ℕ) → AllBelow acc xs → AllAbove x xs → AllBelow (acc ++ x ∷ []) xs
+below_last acc x [] all above = tt
+below_last acc x (y ∷ ys) all above = (all_last y acc x all.0 above.0, below_last acc x ys all.1 above.1)
+
+fold_ascends : (acc xs : List ℕ) → AllBelow acc xs → Rises xs → fold (λ list n. with_number n list) acc xs ≡ acc ++ xs
+fold_ascends acc [] all rises = sym (append-nil acc)
+fold_ascends acc (x ∷ xs) all rises =
+    ap (λ l. fold (λ list n. with_number n list) l xs) (with_last x acc all.0)
+    ∙ fold_ascends (acc ++ x ∷ []) xs (below_last acc x xs all.1 rises.0) rises.1
+    ∙ append_assoc acc (x ∷ []) xs
+
+none_below : (xs : List ℕ) → AllBelow [] xs
+none_below [] = tt
+none_below (x ∷ xs) = (tt, none_below xs)
+
+pub registered_ascend : (ws : List Wish) → Ascend ws → ascending (txns_of ws) ≡ txns_of ws
+registered_ascend ws ascend = fold_ascends [] (txns_of ws) (none_below (txns_of ws)) (rises_from (txns_of ws) ascend)
+
+-- A wish that was put in is found.
+
+pub wish_put : (wish : Wish) (ws : List Wish) → is_registered wish.txn ws ≡ false → wish_of wish.txn (with_wish wish ws) ≡ Some wish
+wish_put wish [] absent = ap (λ b. cond b (Some wish) None) (eq-eqb wish.txn wish.txn refl)
+wish_put wish (w ∷ ws) absent =
+    let parts = apart_from wish.txn w ws absent in by_test (ltb wish.txn w.txn) parts.0 (wish_put wish ws parts.1)
+  where
+    by_test : (b : Bool) → eqb w.txn wish.txn ≡ false → wish_of wish.txn (with_wish wish ws) ≡ Some wish → wish_of wish.txn (cond b (wish ∷ w ∷ ws) (w ∷ with_wish wish ws)) ≡ Some wish
+    by_test true other rest = ap (λ b. cond b (Some wish) (wish_of wish.txn (w ∷ ws))) (eq-eqb wish.txn wish.txn refl)
+    by_test false other rest = ap (λ b. cond b (Some w) (wish_of wish.txn (with_wish wish ws))) other ∙ rest

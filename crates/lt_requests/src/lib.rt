@@ -4,6 +4,7 @@
 mod asking;
 mod cycle;
 mod deadlock;
+pub mod laws;
 mod questions;
 mod registry;
 mod search;
