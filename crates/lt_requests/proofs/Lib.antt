@@ -4,3 +4,4 @@ pub mod DeadlockLaws
 pub mod SearchLaws
 pub mod StartLaws
 pub mod KeepLaws
+pub mod DoneLaws

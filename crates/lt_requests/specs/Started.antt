@@ -6,7 +6,7 @@ use Rattle.lt_seq.specs.declared.event.Reply.{Reply}
 use Rattle.lt_seq.specs.declared.event.Reply.TheVariants.{Granted, Buffered, HeldBy}
 use Rattle.lt_seq.specs.declared.event.Receipt.{Receipt}
 use Rattle.lt_seq.specs.declared.fault.Fault.{Fault}
-use Rattle.lt_seq.specs.declared.fault.Fault.TheVariants.{OutOfMemory}
+use Rattle.lt_seq.specs.declared.fault.Fault.TheVariants.{OutOfMemory, Busy, HistoryFull, OutOfLocks}
 use Rattle.lt_seq.specs.Table.{Setting}
 use Rattle.lt_seq.specs.Yard.{PassView, Happens, Answers, AskAnswers, IsSound, Goes}
 use Rattle.lt_seq.specs.Questions.{question, named_in}
@@ -140,3 +140,11 @@ IsStarted setting bar wish others waiting before old new after (Err fault) = Has
 pub record Keeps (setting : Setting) (old new : PassView) : Type 0 where
   pub rights : new.rights ≡ old.rights
   pub goes : IsSound setting old → Goes setting old new
+
+-- it has an answer, or the ask was out of locks, or memory was short
+abbrev pub HasAnswer : Result Started Fault → Type 0
+HasAnswer (Ok started) = Unit {0}
+HasAnswer (Err OutOfMemory) = Unit {0}
+HasAnswer (Err (Busy row holder)) = ⊥
+HasAnswer (Err (HistoryFull place)) = ⊥
+HasAnswer (Err (OutOfLocks place used_rows)) = Unit {0}
