@@ -71,7 +71,8 @@ fn ask_for<Y: Yard>(
     requires kept { AreKept registry.now questions.old.listed.items questions.old.asked }
     ensures of { Y.Pass.origin pass.new ≡ origin_of (Y.identity yard.now) (Y.setting yard.now) }
     ensures kept { OnOk result (AreKept registry.now questions.new.listed.items questions.new.asked) }
-    ensures asked { OnOk result (IsAskedFor (Y.setting yard.now) txn wish.now registry.now (Y.Pass.view pass.old) (Y.Pass.view pass.new) questions.old.listed.items questions.old.edges.items questions.new.listed.items questions.new.edges.items) }
+    ensures asked { OnOk result (IsAskedFor (Y.setting yard.now) txn wish.now registry.now (Y.Pass.view pass.old) (Y.Pass.view pass.new)
+        questions.old.listed.items questions.old.edges.items questions.new.listed.items questions.new.edges.items) }
     ensures fault { IfErr result (HasNoAnswer (Y.setting yard.now) txn wish.now (Y.Pass.view pass.old) (Y.Pass.view pass.new)) }
 {
     let receipt = match yard.who(pass, txn, wish.txn, wish.tree, &wish.range) {
