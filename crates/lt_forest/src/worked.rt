@@ -1,5 +1,6 @@
 //! Worked plans, carried through the laws: they show that the laws' premises can be met.
-ghost use Rattle.lt_forest.specs.WorkedTrees.{WorkedStart, WorkedInsertion, WorkedMerge, WorkedRemoval, WorkedJoin, WorkedQuestion, WorkedRotation, WorkedReplacement, WorkedFirstFree};
+ghost use Rattle.lt_forest.specs.WorkedTrees.{WorkedStart, WorkedInsertion, WorkedMerge, WorkedRemoval, WorkedJoin};
+ghost use Rattle.lt_forest.specs.WorkedTrees.{WorkedQuestion, WorkedRotation, WorkedReplacement, WorkedFirstFree};
 ghost use Rattle.lt_forest.specs.WorkedBuffer.{WorkedBuffer};
 
 /// A table of one tree with four rows, to which a history leads, and what plans make of it: a range is inserted below a held

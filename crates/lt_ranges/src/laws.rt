@@ -22,7 +22,8 @@ pub fn keys_are_in_order()
 #[tactic(auto, using(crate::proofs::PrefixLaws::prefix_above, crate::proofs::PrefixLaws::prefix_below, crate::proofs::PrefixLaws::prefix_keys))]
 pub fn prefix_endpoints_come_last()
     ensures above { (front : List ℕ) (key : Key) → IsTrue (begins_with front key) → IsTrue (key_le key (Key.After front)) }
-    ensures below { (front : List ℕ) (key : Key) → begins_with front key ≡ false → IsTrue (key_le (Key.Bytes front) key) → key_le key (Key.After front) ≡ false }
+    ensures below { (front : List ℕ) (key : Key) → begins_with front key ≡ false → IsTrue (key_le (Key.Bytes front) key)
+        → key_le key (Key.After front) ≡ false }
     ensures range { (front : List ℕ) (key : Key) → has (prefix_range front) key ≡ begins_with front key }
 {}
 

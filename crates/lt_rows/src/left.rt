@@ -22,7 +22,8 @@ fn add_tree(
     left: &mut Vec<Held>,
 ) -> Result<(), AllocError>
     requires { LeadsToTree last.now top }
-    ensures { OnOk result ((t : Tree) → LeadsTo (nodes_in last.now) top t → left.new.items ≡ left.old.items ++ held_in tree (pairs_in (nodes_in last.now) t)) }
+    ensures { OnOk result ((t : Tree) → LeadsTo (nodes_in last.now) top t
+        → left.new.items ≡ left.old.items ++ held_in tree (pairs_in (nodes_in last.now) t)) }
 {
     let mut above: Vec<usize> = Vec::new(alloc);
     let mut link = top;
@@ -88,7 +89,8 @@ fn add_left(
 ) -> Result<(), AllocError>
     requires tree { tree < plan.now.trees }
     requires forest { (state : List TreeState) × IsLastForest plan.now last.now state }
-    ensures { OnOk result ((state : List TreeState) → IsLastForest plan.now last.now state → left.new.items ≡ left.old.items ++ held_in tree (tree_at state tree).pairs) }
+    ensures { OnOk result ((state : List TreeState) → IsLastForest plan.now last.now state
+        → left.new.items ≡ left.old.items ++ held_in tree (tree_at state tree).pairs) }
 {
     let anchor = last.row(tree as usize);
     if anchor.owner() == 0 {

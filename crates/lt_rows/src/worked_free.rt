@@ -72,7 +72,8 @@ fn commit_free(
     requires only { IsOnly txn three.now }
     requires plan { IsFreePlan three.now plan.0 plan.1 plan.2 }
     ensures of { IsPassOf table.now pass.new × IsSamePass pass.old pass.new }
-    ensures made { IsCommitOf table.now.plan (knows pass.old) (knows pass.new) record { pass = pass.old.number; txn = txn; deed = free_whole tree } result }
+    ensures made { IsCommitOf table.now.plan (knows pass.old) (knows pass.new)
+        record { pass = pass.old.number; txn = txn; deed = free_whole tree } result }
     ensures rows { HoldsImage (knows pass.new) plan.0 × HoldsImage (knows pass.new) plan.1 × HoldsImage (knows pass.new) plan.2 }
     ensures apart { AreApart plan.0 plan.1 plan.2 }
     ensures others { (r : ℕ) → r ≢ plan.0.row → r ≢ plan.1.row → r ≢ plan.2.row → row_at (knows pass.new) r ≡ None }
@@ -99,7 +100,8 @@ pub fn free_whole(table: &RowTable, pass: &mut RowPass, tree: u32, txn: u64) -> 
     requires tree { tree < table.now.plan.trees }
     requires none { (r : ℕ) → row_at (knows pass.old) r ≡ None }
     ensures of { IsPassOf table.now pass.new × IsSamePass pass.old pass.new }
-    ensures made { IfSome result (λ place. IsCommitOf table.now.plan (knows pass.old) (knows pass.new) record { pass = pass.old.number; txn = txn; deed = free_whole tree } place) }
+    ensures made { IfSome result (λ place. IsCommitOf table.now.plan (knows pass.old) (knows pass.new)
+        record { pass = pass.old.number; txn = txn; deed = free_whole tree } place) }
     ensures none { IfSome result (λ _. (r : ℕ) → row_at (knows pass.new) r ≡ None) }
 {
     let three = gather_top(table, pass, tree)?;

@@ -52,7 +52,8 @@ pub fn ask_again(table: &RowTable, pass: &mut RowPass, tree: u32, txn: u64) -> O
     requires tree { tree < table.now.plan.trees }
     requires none { (r : ℕ) → row_at (knows pass.old) r ≡ None }
     ensures of { IsPassOf table.now pass.new × IsSamePass pass.old pass.new }
-    ensures made { IfSome result (λ place. IsCommitOf table.now.plan (knows pass.old) (knows pass.new) record { pass = pass.old.number; txn = txn; deed = ask_whole tree } place) }
+    ensures made { IfSome result (λ place. IsCommitOf table.now.plan (knows pass.old) (knows pass.new)
+        record { pass = pass.old.number; txn = txn; deed = ask_whole tree } place) }
     ensures none { IfSome result (λ _. (r : ℕ) → row_at (knows pass.new) r ≡ None) }
 {
     let row = descend(table, pass, tree)?;

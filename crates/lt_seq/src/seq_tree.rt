@@ -1,6 +1,7 @@
 //! One tree of the plain table.
 ghost use Rattle.std.specs.Prelude.{◌≡◌, ◌++◌, [], length, OnOk, OnErr, IfOk};
-ghost use Rattle.lt_seq.specs.Table.{fresh, rows_in, ended, is_whole, is_buffered, ask_reply, after_ask, free_count, after_free, mode_asked, held_in};
+ghost use Rattle.lt_seq.specs.Table.{fresh, rows_in, ended, is_whole, is_buffered, ask_reply};
+ghost use Rattle.lt_seq.specs.Table.{after_ask, free_count, after_free, mode_asked, held_in};
 ghost use Rattle.lt_seq.specs.Pairs.{IsLawful, others, joined};
 ghost use Rattle.lt_seq.specs.Sound.{IsSoundTree};
 

@@ -113,7 +113,8 @@ impl SeqTrees {
     /// Ends a buffer of another in a tree.
     pub(crate) fn end_for(&mut self, tree: u32, named: u64)
         requires { tree < length self.old }
-        ensures { self.new ≡ slice_set self.old tree (record { pairs = (tree_at self.old tree).pairs; mode = mode_asked named (tree_at self.old tree).mode }) }
+        ensures { self.new ≡ slice_set self.old tree
+            (record { pairs = (tree_at self.old tree).pairs; mode = mode_asked named (tree_at self.old tree).mode }) }
     {
         self.list[tree as usize].end_for(named);
     }

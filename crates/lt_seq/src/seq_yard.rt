@@ -112,7 +112,8 @@ impl Yard for SeqYard {
     fn close(self, alloc: Global, passes: Vec<SeqPass>) -> Result<Closed, AllocError>
         requires of { AllByRecursion (λ p. origin_in p ≡ origin_of [] (plain self)) passes.items }
         requires all { AreAll (plain self) (map (λ p. p.view) passes.items) }
-        ensures rest { IfOk result (IsRest (plain self) (front_of_first (map (λ p. p.view) passes.items)) (map (λ p. p.view) passes.items)) }
+        ensures rest { IfOk result (IsRest (plain self) (front_of_first (map (λ p. p.view) passes.items))
+            (map (λ p. p.view) passes.items)) }
     {
         let mut passes = passes;
         let Some(pass) = passes.pop() else {

@@ -4,7 +4,8 @@ ghost use Rattle.std.specs.List.{AllByRecursion};
 ghost use Rattle.lt_seq.specs.declared.event.Deed.TheVariants.{Ask, Free, Who, Join};
 ghost use Rattle.lt_seq.specs.declared.event.Reply.TheVariants.{Granted};
 ghost use Rattle.lt_seq.specs.Table.{Setting};
-ghost use Rattle.lt_seq.specs.Yard.{IsPlan, Origin, origin_of, PassView, NoteView, Watches, Answers, AskAnswers, bar_for, shows, Shares, Learns};
+ghost use Rattle.lt_seq.specs.Yard.{IsPlan, Origin, origin_of, PassView, NoteView, Watches};
+ghost use Rattle.lt_seq.specs.Yard.{Answers, AskAnswers, bar_for, shows, Shares, Learns};
 ghost use Rattle.lt_seq.specs.Passes.{opening_passes, AreAll, front_of_first, IsRest};
 
 use crate::event::{Held, JoinNote, Look, Receipt};
@@ -117,7 +118,8 @@ pub trait Yard: Sync + Sized + Drop {
         requires txn { 1 ≤ txn }
         requires tree { tree < (setting self.now).plan.trees }
         ensures of { Self.Pass.origin pass.new ≡ origin_of (identity self.now) (setting self.now) }
-        ensures answer { AskAnswers (setting self.now) (bar_for (setting self.now) big) (Self.Pass.view pass.old) (Self.Pass.view pass.new) txn (Ask tree range.now Granted) result };
+        ensures answer { AskAnswers (setting self.now) (bar_for (setting self.now) big) (Self.Pass.view pass.old)
+            (Self.Pass.view pass.new) txn (Ask tree range.now Granted) result };
 
     /// Frees the transaction's ranges that overlap the range, and counts them. `first` tells that this is the
     /// first free of a release in this tree.
@@ -136,7 +138,8 @@ pub trait Yard: Sync + Sized + Drop {
         requires txn { 1 ≤ txn }
         requires tree { tree < (setting self.now).plan.trees }
         ensures of { Self.Pass.origin pass.new ≡ origin_of (identity self.now) (setting self.now) }
-        ensures answer { Answers (setting self.now) (Self.Pass.view pass.old) (Self.Pass.view pass.new) txn (Free tree range.now first 0) result };
+        ensures answer { Answers (setting self.now) (Self.Pass.view pass.old) (Self.Pass.view pass.new) txn
+            (Free tree range.now first 0) result };
 
     /// Asks whose ranges stand in the way of the named transaction, which may be the one that asks. There may be none.
     ///
@@ -155,7 +158,8 @@ pub trait Yard: Sync + Sized + Drop {
         requires as_txn { 1 ≤ as_txn }
         requires tree { tree < (setting self.now).plan.trees }
         ensures of { Self.Pass.origin pass.new ≡ origin_of (identity self.now) (setting self.now) }
-        ensures answer { Answers (setting self.now) (Self.Pass.view pass.old) (Self.Pass.view pass.new) txn (Who tree range.now as_txn []) result };
+        ensures answer { Answers (setting self.now) (Self.Pass.view pass.old) (Self.Pass.view pass.new) txn
+            (Who tree range.now as_txn []) result };
 
     /// Joins each run of neighbours of one owner in a tree, and leaves a note of it.
     ///
@@ -202,5 +206,6 @@ pub trait Yard: Sync + Sized + Drop {
     fn close(self, alloc: Global, passes: Vec<Self::Pass>) -> Result<Closed, AllocError>
         requires of { AllByRecursion (λ p. Self.Pass.origin p ≡ origin_of (identity self) (setting self)) passes.items }
         requires all { AreAll (setting self) (map Self.Pass.view passes.items) }
-        ensures rest { IfOk result (IsRest (setting self) (front_of_first (map Self.Pass.view passes.items)) (map Self.Pass.view passes.items)) };
+        ensures rest { IfOk result (IsRest (setting self) (front_of_first (map Self.Pass.view passes.items))
+            (map Self.Pass.view passes.items)) };
 }

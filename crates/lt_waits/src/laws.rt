@@ -12,5 +12,6 @@ pub fn least_walks_are_one()
 /// The walk that is computed is the least one, and there is one exactly where a closed walk goes through the transaction.
 #[tactic(auto, using(crate::proofs::ShortLaws::least_walk_is))]
 pub fn the_least_walk_is_computed()
-    ensures { (edges : List Wait) (txn : ℕ) → MatchOption (least_walk edges txn) (HasNoClosedWalk edges txn) (λ walk. IsLeastWalk edges txn walk) }
+    ensures { (edges : List Wait) (txn : ℕ)
+        → MatchOption (least_walk edges txn) (HasNoClosedWalk edges txn) (λ walk. IsLeastWalk edges txn walk) }
 {}

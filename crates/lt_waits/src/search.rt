@@ -1,8 +1,10 @@
 //! The search: breadth first from the transaction along the edges backwards, and then forwards by the least steps.
-ghost use Rattle.std.specs.Prelude.{◌≡◌, ◌≤◌, ◌<◌, ◌^◌, ◌+◌, ◌∷◌, ◌++◌, [], List, All, Contains, length, is_none, IfOk, Option, MatchOption, vec_len, if◌then◌else◌, slice_index_or};
+ghost use Rattle.std.specs.Prelude.{◌≡◌, ◌≤◌, ◌<◌, ◌^◌, ◌+◌, ◌∷◌, ◌++◌, [], List, All};
+ghost use Rattle.std.specs.Prelude.{Contains, length, is_none, IfOk, Option, MatchOption, vec_len, if◌then◌else◌, slice_index_or};
 ghost use Rattle.std.specs.List.Sorted.{IsPermutation, IsNonDecreasingBy};
 ghost use Rattle.lt_waits.specs.Walks.{HasNoClosedWalk, IsLeastWalk};
-ghost use Rattle.lt_waits.specs.Steps.{steps_in, IsTaken, HasEdgesTo, Grows, AddsOnly, IsNext, IsOpened, IsSearch, IsHere, AreSteps, IsWalkBy, next_of, waiting};
+ghost use Rattle.lt_waits.specs.Steps.{steps_in, IsTaken, HasEdgesTo, Grows, AddsOnly, IsNext, IsOpened};
+ghost use Rattle.lt_waits.specs.Steps.{IsSearch, IsHere, AreSteps, IsWalkBy, next_of, waiting};
 
 use crate::wait::Wait;
 use std::alloc::{AllocError, Global};
@@ -77,7 +79,8 @@ fn next_layer(
     requires layer { All (λ w. IsNext txn (steps_in steps.old) w left) layer.now }
     ensures search { IfOk result (λ next. IsSearch by_holder.now txn left (steps_in steps.new) next.items) }
     ensures here { IfOk result (λ next. IsHere by_holder.now txn left (steps_in steps.new) []) }
-    ensures fewer { IfOk result (λ next. waiting by_holder.now (steps_in steps.new) + vec_len next ≤ waiting by_holder.now (steps_in steps.old)) }
+    ensures fewer { IfOk result (λ next. waiting by_holder.now (steps_in steps.new) + vec_len next
+        ≤ waiting by_holder.now (steps_in steps.old)) }
 {
     let mut next = Vec::new(alloc);
     for holder in layer {
@@ -102,7 +105,8 @@ fn open(
     ensures grows { IfOk result (λ _. Grows (steps_in steps.old) (steps_in steps.new)) }
     ensures adds { IfOk result (λ _. AddsOnly left (steps_in steps.old) (steps_in steps.new)) }
     ensures opened { IfOk result (λ _. IsOpened by_holder.now (steps_in steps.new) holder left) }
-    ensures fewer { IfOk result (λ _. waiting by_holder.now (steps_in steps.new) + vec_len found.new ≤ waiting by_holder.now (steps_in steps.old) + vec_len found.old) }
+    ensures fewer { IfOk result (λ _. waiting by_holder.now (steps_in steps.new) + vec_len found.new
+        ≤ waiting by_holder.now (steps_in steps.old) + vec_len found.old) }
 {
     for wait in edges_to(by_holder, holder) {
         take_step(wait, left, steps, found)?;
@@ -141,7 +145,8 @@ fn walk_by(
     steps: &BTreeMap<u64, Step>,
     txn: u64,
 ) -> Result<Option<Vec<u64>>, AllocError>
-    ensures { IfOk result (λ found. MatchOption found (steps_in steps.now txn ≡ None) (λ walk. IsWalkBy (steps_in steps.now) txn walk.items)) }
+    ensures { IfOk result (λ found. MatchOption found (steps_in steps.now txn ≡ None)
+        (λ walk. IsWalkBy (steps_in steps.now) txn walk.items)) }
 {
     let Some(first) = steps.get(&txn) else {
         return Ok(None);
