@@ -57,10 +57,10 @@ none_of txn n [] all = refl
 none_of txn n (w ∷ ws) all = ap (λ b. b || is_registered n ws) (ne_eqb w.txn n (λ same. omega (arith, all.0, same))) ∙ none_of txn n ws all.1
 
 -- none of those new is listed, and all wait
-record AreNew (all listed new : List Wish) : Type 0 where
-  rises : Rises (txns_of new)
-  fresh : AllByRecursion (λ w. is_registered w.txn listed ≡ false) new
-  there : AllByRecursion (λ w. is_registered w.txn all ≡ true) new
+pub record AreNew (all listed new : List Wish) : Type 0 where
+  pub rises : Rises (txns_of new)
+  pub fresh : AllByRecursion (λ w. is_registered w.txn listed ≡ false) new
+  pub there : AllByRecursion (λ w. is_registered w.txn all ≡ true) new
 
 fresh_still : (listed : List Wish) (w : Wish) (ws : List Wish) → AllAbove w.txn (txns_of ws) → AllByRecursion (λ v. is_registered v.txn listed ≡ false) ws → AllByRecursion (λ v. is_registered v.txn (listed ++ w ∷ []) ≡ false) ws
 fresh_still listed w [] above fresh = tt
@@ -69,7 +69,7 @@ fresh_still listed w (v ∷ ws) above fresh = (
   fresh_still listed w ws above.1 fresh.1,
 )
 
-kept_all : (all listed asked new : List Wish) → AreKept all listed asked → AreNew all listed new → (sorted : List Wish) × AreKept all (listed ++ new) sorted
+pub kept_all : (all listed asked new : List Wish) → AreKept all listed asked → AreNew all listed new → (sorted : List Wish) × AreKept all (listed ++ new) sorted
 kept_all all listed asked [] kept are = (asked, subst (λ l. AreKept all l asked) (sym (append-nil listed)) kept)
 kept_all all listed asked (w ∷ ws) kept are =
     let more = kept_more all listed asked w kept are.there.0 (kept.same w.txn ∙ are.fresh.0) in
@@ -109,14 +109,14 @@ all_fresh : (ws : List Wish) → AllByRecursion (λ w. is_registered w.txn [] �
 all_fresh [] = tt
 all_fresh (w ∷ ws) = (refl, all_fresh ws)
 
-first_new : (wishes : List Wish) (owners : List ℕ) → Ascend wishes → AreNew wishes [] (wishes_of owners wishes)
+pub first_new : (wishes : List Wish) (owners : List ℕ) → Ascend wishes → AreNew wishes [] (wishes_of owners wishes)
 first_new wishes owners ascend = record {
   rises = rises-filter (λ w. is_in w.txn owners) wishes (rises_from (txns_of wishes) ascend);
   fresh = all_fresh (wishes_of owners wishes);
   there = named_there wishes owners;
 }
 
-more_new : (txn : ℕ) (wishes listed : List Wish) (owners : List ℕ) → Ascend wishes → AreNew wishes listed (new_wishes txn listed (wishes_of owners wishes))
+pub more_new : (txn : ℕ) (wishes listed : List Wish) (owners : List ℕ) → Ascend wishes → AreNew wishes listed (new_wishes txn listed (wishes_of owners wishes))
 more_new txn wishes listed owners ascend =
     let test = λ (w : Wish). not (eqb w.txn txn) && not (is_in w.txn (map (λ (l : Wish). l.txn) listed)) in
     record {

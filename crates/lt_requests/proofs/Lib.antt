@@ -5,3 +5,5 @@ pub mod SearchLaws
 pub mod StartLaws
 pub mod KeepLaws
 pub mod DoneLaws
+pub mod ServedLaws
+pub mod CircleLaws

@@ -2,7 +2,7 @@
 ghost use Rattle.std.specs.Prelude.{◌≡◌, List, Some, false};
 ghost use Rattle.lt_ranges.specs.Numbers.{ascending};
 ghost use Rattle.lt_requests.specs.declared.wish.Wish.{Wish};
-ghost use Rattle.lt_requests.specs.Laws.{StartsHaveAnswers};
+ghost use Rattle.lt_requests.specs.Laws.{StartsHaveAnswers, SearchesFindCircles};
 ghost use Rattle.lt_requests.specs.Registered.{Ascend, txns_of, is_registered, wish_of, with_wish, without};
 
 /// Registered wishes stand by ascending transaction, each once, and stay so where one that was not there is put in. That
@@ -18,4 +18,11 @@ pub fn registered_wishes()
 /// retry has its answer, unless memory is short or the ask is out of locks: it is never busy, and the history is not full.
 pub fn starts_have_answers()
     ensures { StartsHaveAnswers }
+{}
+
+/// A search misses no circle. Where an ask is held and the search behind it finds no closed walk, no way of those that wait,
+/// each for something that the next one holds, leads from the transaction back to it.
+#[tactic(auto, using(crate::proofs::CircleLaws::no_circle))]
+pub fn searches_find_circles()
+    ensures { SearchesFindCircles }
 {}
