@@ -25,6 +25,12 @@ pub mod FitLaws
 pub mod EndLaws
 pub mod SettledLaws
 pub mod NoLockLaws
+pub mod WayLaws
+pub mod BlockedLaws
+pub mod GrowLaws
+pub mod CaughtLaws
+pub mod ClearLaws
+pub mod SweptLaws
 pub mod RunLaws
 pub mod WholeLaws
 pub mod OrderLaws

@@ -83,7 +83,7 @@ holds_gives setting txns M P game turn r rs keeps at m is = record {
   is = keeps.gives game turn r rs at m is;
 }
 
-holds_marks : (setting : Setting) (txns : List ℕ) (M : ℕ → Type 0) (P : Game → Type 0) (game : Game) (released : Bool) → KeepsOf setting txns M P →
+pub holds_marks : (setting : Setting) (txns : List ℕ) (M : ℕ → Type 0) (P : Game → Type 0) (game : Game) (released : Bool) → KeepsOf setting txns M P →
     Holds setting txns P game → Holds setting txns P (record game { released = released })
 holds_marks setting txns M P game released keeps holds = record {
   order = record { sorted = holds.order.sorted; numbers = holds.order.numbers; steady = holds.order.steady };

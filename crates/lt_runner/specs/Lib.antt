@@ -13,5 +13,6 @@ pub mod Run
 pub mod LeftOut
 pub mod Played
 pub mod Steps
+pub mod Clear
 pub mod AtOnce
 pub mod Transcript
