@@ -31,6 +31,9 @@ pub mod GrowLaws
 pub mod CaughtLaws
 pub mod ClearLaws
 pub mod SweptLaws
+pub mod DueLaws
+pub mod DueTurnLaws
+pub mod DueGameLaws
 pub mod RunLaws
 pub mod WholeLaws
 pub mod OrderLaws

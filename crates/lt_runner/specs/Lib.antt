@@ -14,5 +14,6 @@ pub mod LeftOut
 pub mod Played
 pub mod Steps
 pub mod Clear
+pub mod Due
 pub mod AtOnce
 pub mod Transcript
