@@ -1,4 +1,4 @@
--- Where a game in which none is ready is one in which all have ended, the run plays all to their end.
+-- Where each game between two steps in which none is ready is one in which all have ended, the run plays all to their end.
 use Rattle.std.proofs.Common.{◌≡◌, ℕ, suc, ◌+◌, ◌≤◌, List, [], ◌∷◌, ◌++◌, map, Bool, true, false, ◌==◌, ◌||◌, not, ◌&&◌, if◌then◌else◌, Option, Some, None, is_some, is_none, length}
 use Rattle.std.proofs.Common.{nat_cmp, refl, sym, ap, subst, ◌∙◌, arith, eq-eqb}
 use Rattle.std.specs.List.{AllByRecursion, fold, find}
@@ -19,16 +19,20 @@ use Rattle.lt_runner.proofs.ChoiceLaws.{on_true, on_false}
 use Rattle.lt_runner.proofs.SteadyLaws.{turn_of_txn, turn_of_with, turn_of_other, turn_has, ready_goes, never, steady_taking}
 use Rattle.lt_runner.proofs.MoveLaws.{AnyOne, are_of, the_turn, turn_after_does, in_order_with, holds_plays, holds_settles, holds_settled}
 use Rattle.lt_runner.proofs.IdleLaws.{AreAtRest, keeps_nothing, keeps_ended, rest_added}
-use Rattle.lt_runner.proofs.StepLaws.{HoldsBetween, found_ready, holds_all_taken, holds_ends_one, holds_all_ended, opening_at_rest}
+use Rattle.lt_runner.proofs.StepLaws.{found_ready, holds_ends_one}
 use Rattle.lt_runner.proofs.WishLaws.{IsPlaced, all_placed}
 use Rattle.lt_runner.proofs.AttemptLaws.{seat_at}
 
 abbrev pub has_ended : Setting → ℕ → Game → Bool
 has_ended setting txn game = is_some (turn_of setting txn game.turns).outcome
 
--- where none is ready, all have ended
-abbrev pub IsNeverStuck : Setting → List ℕ → (Game → Type 0) → Type 0
-IsNeverStuck setting txns P = (game : Game) → HoldsBetween setting txns P game → find is_ready game.turns ≡ None → (txn : ℕ) → is_in txn txns ≡ true → has_ended setting txn game ≡ true
+-- A property of games between two steps, and the lines that are still to come, which each step keeps: where it holds behind all lines
+-- and none is ready, all have ended.
+pub record NeverStuck (setting : Setting) (txns : List ℕ) (I : List Line → Game → Type 0) : Type 0 where
+  pub at_rest : (left : List Line) (game : Game) → I left game → AreAtRest setting txns game
+  pub takes_one : (line : Line) (left : List Line) (game : Game) → IsFit setting txns line → I (line ∷ left) game → I left (takes_line setting txns game line)
+  pub ends_next : (game : Game) → I [] game → I [] (ends_one setting txns game)
+  pub over : (game : Game) → I [] game → find is_ready game.turns ≡ None → (txn : ℕ) → is_in txn txns ≡ true → has_ended setting txn game ≡ true
 
 -- One that has ended stays so.
 
@@ -235,24 +239,39 @@ all_ended : (setting : Setting) (game : Game) (ns txns : List ℕ) → AllByRecu
 all_ended setting game [] txns of_them all = tt
 all_ended setting game (n ∷ ns) txns of_them all = (all n of_them.0, all_ended setting game ns txns of_them.1 all)
 
-ends_all : (setting : Setting) (txns : List ℕ) (P : List Line → Game → Type 0) (left : List ℕ) (game : Game) → KeepsSteps setting txns P →
-    IsNeverStuck setting txns (P []) → HoldsBetween setting txns (P []) game → open_in setting game txns ≤ length left →
+ends_all : (setting : Setting) (txns : List ℕ) (I : List Line → Game → Type 0) (left : List ℕ) (game : Game) → NeverStuck setting txns I → I [] game →
+    open_in setting game txns ≤ length left →
     AllByRecursion (λ n. has_ended setting n (fold (λ g (txn : ℕ). ends_one setting txns g) game left) ≡ true) txns
-ends_all setting txns P [] game keeps stuck between few = none_open setting game txns few
-ends_all setting txns P (txn ∷ left) game keeps stuck between few =
-    ends_all setting txns P left (ends_one setting txns game) keeps stuck (holds_ends_one setting txns P game keeps between) (by_found (find is_ready game.turns) refl)
+ends_all setting txns I [] game never is few = none_open setting game txns few
+ends_all setting txns I (txn ∷ left) game never is few =
+    ends_all setting txns I left (ends_one setting txns game) never (never.ends_next game is) (by_found (find is_ready game.turns) refl)
   where
+    at_rest : AreAtRest setting txns game
+    at_rest = never.at_rest [] game is
+
     still : AreStill setting game (ends_one setting txns game) txns
-    still = all_still setting txns txns game between.at_rest
+    still = all_still setting txns txns game at_rest
 
     by_found : (found : Option Turn) → find is_ready game.turns ≡ found → open_in setting (ends_one setting txns game) txns ≤ length left
     by_found None none =
-        let over = open_none setting game txns (all_ended setting game txns txns (are_of txns) (stuck game between none)) in
-        omega (arith, over, open_less setting game (ends_one setting txns game) txns still)
+        let done = open_none setting game txns (all_ended setting game txns txns (are_of txns) (never.over game is none)) in
+        omega (arith, done, open_less setting game (ends_one setting txns game) txns still)
     by_found (Some turn) some =
-        let it = ended_one setting txns game turn between.at_rest some in
+        let it = ended_one setting txns game turn at_rest some in
         let k = open_fewer setting game (ends_one setting txns game) turn.txn txns still it.number it.before it.after in
         omega (arith, k, few)
+
+-- Each step keeps it.
+
+takes_all : (setting : Setting) (txns : List ℕ) (I : List Line → Game → Type 0) (lines : List Line) (game : Game) → NeverStuck setting txns I → AllByRecursion (IsFit setting txns) lines →
+    I lines game → I [] (fold (takes_line setting txns) game lines)
+takes_all setting txns I [] game never fit is = is
+takes_all setting txns I (line ∷ lines) game never fit is = takes_all setting txns I lines (takes_line setting txns game line) never fit.1 (never.takes_one line lines game fit.0 is)
+
+ends_each : (setting : Setting) (txns : List ℕ) (I : List Line → Game → Type 0) (left : List ℕ) (game : Game) → NeverStuck setting txns I → I [] game →
+    I [] (fold (λ g (txn : ℕ). ends_one setting txns g) game left)
+ends_each setting txns I [] game never is = is
+ends_each setting txns I (txn ∷ left) game never is = ends_each setting txns I left (ends_one setting txns game) never (never.ends_next game is)
 
 -- All of them, at the end of the run.
 
@@ -281,14 +300,13 @@ pub record PlaysOut (setting : Setting) (txns : List ℕ) (game : Game) : Type 0
   pub numbers_are : map (λ t. t.txn) game.turns ≡ txns
   pub over : AllByRecursion (λ t. IsOver (seat_at t)) game.turns
 
-pub plays_out : (setting : Setting) (txns : List ℕ) (P : List Line → Game → Type 0) (lines : List Line) → KeepsSteps setting txns P → IsNeverStuck setting txns (P []) →
-    IsStrictlySortedBy nat_cmp txns → AllByRecursion (IsFit setting txns) lines →
-    P lines (opening_game setting txns) → PlaysOut setting txns (played setting txns lines)
-plays_out setting txns P lines keeps stuck sorted fit first =
-    let middle = holds_all_taken setting txns P lines (opening_game setting txns) keeps fit
-    (record { holds = record { order = (opening_at_rest setting txns sorted).order; is = first }; at_rest = opening_at_rest setting txns sorted }) in
-    let last = holds_all_ended setting txns P txns (fold (takes_line setting txns) (opening_game setting txns) lines) keeps middle in
-    let ended = ends_all setting txns P txns (fold (takes_line setting txns) (opening_game setting txns) lines) keeps stuck middle (open_few setting _ txns) in
+pub plays_out : (setting : Setting) (txns : List ℕ) (I : List Line → Game → Type 0) (lines : List Line) → NeverStuck setting txns I → IsStrictlySortedBy nat_cmp txns →
+    AllByRecursion (IsFit setting txns) lines → I lines (opening_game setting txns) → PlaysOut setting txns (played setting txns lines)
+plays_out setting txns I lines never sorted fit first =
+    let half = fold (takes_line setting txns) (opening_game setting txns) lines in
+    let middle = takes_all setting txns I lines (opening_game setting txns) never fit first in
+    let at_rest = never.at_rest [] (played setting txns lines) (ends_each setting txns I txns half never middle) in
+    let ended = ends_all setting txns I txns half never middle (open_few setting half txns) in
     let game = played setting txns lines in
-    let placed = all_placed setting game.turns (subst (IsStrictlySortedBy nat_cmp) (sym last.at_rest.order.numbers) sorted) in
-    record { numbers_are = last.at_rest.order.numbers; over = seats_over setting txns game game.turns last.at_rest ended placed }
+    let placed = all_placed setting game.turns (subst (IsStrictlySortedBy nat_cmp) (sym at_rest.order.numbers) sorted) in
+    record { numbers_are = at_rest.order.numbers; over = seats_over setting txns game game.turns at_rest ended placed }

@@ -11,8 +11,7 @@ use Rattle.lt_trace.specs.declared.line.LineDeed.TheVariants.{Try, Lock, End, Ab
 use Rattle.lt_trace.specs.declared.fault.TraceFault.{TraceFault}
 use Rattle.lt_trace.specs.declared.fault.TraceFault.TheVariants as fault
 use Rattle.lt_trace.specs.Trace.{TraceView}
-use Rattle.lt_trace.specs.Grammar.{txns_of, IsTrace, IsBody, AreFaultless, IsDeedForm, is_outside, has_long_key, is_backwards, fault_of_deed, fault_of_turn}
-use Rattle.lt_runner.specs.Plays.{is_lock}
+use Rattle.lt_trace.specs.Grammar.{txns_of, IsTrace, IsBody, AreFaultless, is_outside, has_long_key, is_backwards, fault_of_deed, fault_of_turn}
 use Rattle.lt_runner.specs.Serial.{setting_of}
 use Rattle.lt_runner.specs.Steps.{IsFitDeed, IsFit}
 
@@ -122,27 +121,3 @@ both_fit setting txns (line ∷ lines) there deeds = (record { number = there.0;
 -- each line of a trace fits
 pub fit_of_trace : (trace : TraceView) (first : ℕ) → IsTrace trace → AllByRecursion (IsFit (setting_of trace 1 first) (txns_of trace.lines)) trace.lines
 fit_of_trace trace first is_trace = both_fit (setting_of trace 1 first) (txns_of trace.lines) trace.lines (all_of trace.lines) (fit_body trace first trace.lines is_trace.body)
-
--- No line is a lock line: that form is not read yet.
-
-abbrev pub IsNoLock : Line → Type 0
-IsNoLock line = is_lock line.deed ≡ false
-
-no_lock : (version : ℕ) (deed : LineDeed) → IsDeedForm version deed → is_lock deed ≡ false
-no_lock version (Try tree range) form = refl
-no_lock version (Lock tree range) form = absurd form
-no_lock version End form = refl
-no_lock version Abort form = refl
-no_lock version (Escalate tree) form = refl
-no_lock version Big form = refl
-
-no_locks_after : (trace : TraceView) (before lines : List Line) → AreFaultless (trace.version ∷ trace.trees ∷ trace.limit ∷ trace.buffer ∷ []) before lines → AllByRecursion IsNoLock lines
-no_locks_after trace before [] all = tt
-no_locks_after trace before (line ∷ lines) all = (no_lock trace.version line.deed all.0.form.deed, no_locks_after trace (before ++ line ∷ []) lines all.1)
-
-no_locks_in : (trace : TraceView) (lines : List Line) → IsBody (trace.version ∷ trace.trees ∷ trace.limit ∷ trace.buffer ∷ []) lines → AllByRecursion IsNoLock lines
-no_locks_in trace [] body = tt
-no_locks_in trace (line ∷ lines) body = no_locks_after trace [] (line ∷ lines) body.1
-
-pub no_locks : (trace : TraceView) → IsTrace trace → AllByRecursion IsNoLock trace.lines
-no_locks trace is_trace = no_locks_in trace trace.lines is_trace.body

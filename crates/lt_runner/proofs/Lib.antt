@@ -24,7 +24,6 @@ pub mod FollowLaws
 pub mod FitLaws
 pub mod EndLaws
 pub mod SettledLaws
-pub mod NoLockLaws
 pub mod WayLaws
 pub mod BlockedLaws
 pub mod GrowLaws
@@ -34,6 +33,7 @@ pub mod SweptLaws
 pub mod DueLaws
 pub mod DueTurnLaws
 pub mod DueGameLaws
+pub mod StuckLaws
 pub mod RunLaws
 pub mod WholeLaws
 pub mod OrderLaws

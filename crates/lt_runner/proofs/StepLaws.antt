@@ -24,7 +24,7 @@ use Rattle.lt_runner.proofs.MoveLaws.{AnyOne, keeps_of, in_order_with, holds_nex
 -- Steps keep it.
 
 -- the line that a transaction takes is played at once where it is ready
-holds_added : (setting : Setting) (txns : List ℕ) (P : Game → Type 0) (game : Game) (turn : Turn) (line : Line) → KeepsMoves setting txns P →
+pub holds_added : (setting : Setting) (txns : List ℕ) (P : Game → Type 0) (game : Game) (turn : Turn) (line : Line) → KeepsMoves setting txns P →
     IsTurnOf setting txns game turn → IsFitLine setting turn.txn line →
     (is_some turn.outcome ≡ false → P (takes turn line game)) → (is_some turn.outcome ≡ true → P game) → Holds setting txns P (added setting line turn game)
 holds_added setting txns P game turn line keeps of_game fits takes_it passes = by_outcome (is_some turn.outcome) refl
@@ -66,7 +66,7 @@ pub record HoldsBetween (setting : Setting) (txns : List ℕ) (P : Game → Type
   pub holds : Holds setting txns P game
   pub at_rest : AreAtRest setting txns game
 
-rest_taken : (setting : Setting) (txns : List ℕ) (line : Line) (game : Game) → IsFit setting txns line → AreAtRest setting txns game → AreAtRest setting txns (takes_line setting txns game line)
+pub rest_taken : (setting : Setting) (txns : List ℕ) (line : Line) (game : Game) → IsFit setting txns line → AreAtRest setting txns game → AreAtRest setting txns (takes_line setting txns game line)
 rest_taken setting txns line game fit at_rest =
     let turn = turn_of setting line.txn game.turns in
     let of_game = the_turn setting txns line.txn game fit.number at_rest.order in
