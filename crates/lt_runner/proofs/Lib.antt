@@ -34,6 +34,9 @@ pub mod DueLaws
 pub mod DueTurnLaws
 pub mod DueGameLaws
 pub mod StuckLaws
+pub mod LegalLaws
+pub mod PastLaws
+pub mod SettlesLaws
 pub mod RunLaws
 pub mod WholeLaws
 pub mod OrderLaws

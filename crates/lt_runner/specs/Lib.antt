@@ -15,5 +15,6 @@ pub mod Played
 pub mod Steps
 pub mod Clear
 pub mod Due
+pub mod Settles
 pub mod AtOnce
 pub mod Transcript

@@ -1,4 +1,5 @@
--- The steps that the plain scheduler's run is made of, and what holds of its turns between them. For proofs.
+-- The steps that the plain scheduler's run is made of, and what holds of its turns between them. For proofs, and for
+-- the law of sweeps.
 use Rattle.std.specs.Prelude.{◌≡◌, ℕ, ◌<◌, List, [], ◌∷◌, ◌++◌, map, length, is_some, Bool, true, false}
 use Rattle.std.specs.List.{AllByRecursion}
 use Rattle.std.specs.List.Sorted.{IsStrictlySortedBy}

@@ -8,6 +8,7 @@ ghost use Rattle.lt_runner.specs.RandomTraces.{RandomTraces};
 ghost use Rattle.lt_runner.specs.Rows.{Rows};
 ghost use Rattle.lt_runner.specs.Run.{IsRunText};
 ghost use Rattle.lt_runner.specs.Serial.{ran_text, serial, setting_of};
+ghost use Rattle.lt_runner.specs.Settles.{SweepsSettleOne};
 
 /// The plain scheduler writes the worked examples' texts.
 pub fn worked_rows()
@@ -19,6 +20,12 @@ pub fn worked_rows()
 /// other owners.
 pub fn serial_is_a_run()
     ensures { (trace : TraceView) (first : ℕ) → IsTrace trace → IsRunText false (setting_of trace 1 first) trace.lines (ran_text (serial trace first)) }
+{}
+
+/// Where a transaction waits and every pair is owned by one that waits, a sweep grants or ends at least one: in it all that
+/// wait ask again once, ascending.
+pub fn sweeps_settle_one()
+    ensures { SweepsSettleOne }
 {}
 
 /// One that was held at its line is registered while its search goes on: a history in which another's search leaves it
