@@ -98,7 +98,7 @@ ended_line setting txns txn (line ∷ lines) game number order goes same last =
     (holds_settles setting txns AnyOne (λ g. has_ended setting txn g ≡ true) txn next (keeps_ended setting txns txn) tt number
     (record { order = (holds_plays setting txns AnyOne (λ g. Unit {0}) game turn line lines (keeps_nothing setting txns) at tt tt).order; is = ap (λ (t : Turn). is_some t.outcome) there ∙ over })).is
 
-ready_free : (turn : Turn) → is_ready turn ≡ true → turn.waits ≡ false
+pub ready_free : (turn : Turn) → is_ready turn ≡ true → turn.waits ≡ false
 ready_free turn ready = by_tests (is_none turn.outcome) turn.waits ready
   where
     by_tests : (a b : Bool) → (a && not b) ≡ true → b ≡ false

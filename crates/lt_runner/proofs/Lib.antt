@@ -45,3 +45,7 @@ pub mod AskedLaws
 pub mod ListLaws
 pub mod AnswerLaws
 pub mod PlaysOnLaws
+pub mod SmallLaws
+pub mod SumLaws
+pub mod CostLaws
+pub mod FewLaws

@@ -34,11 +34,11 @@ still_itself setting a [] = tt
 still_itself setting a (n ∷ ns) = ((λ is. is), still_itself setting a ns)
 
 -- a release marks the game, and nothing else does
-settled_flag : (setting : Setting) (turn : Turn) (game : Game) → is_some turn.outcome ≡ false → settles setting turn game ≡ game
+pub settled_flag : (setting : Setting) (turn : Turn) (game : Game) → is_some turn.outcome ≡ false → settles setting turn game ≡ game
 settled_flag setting turn game goes = on_false (is_some turn.outcome) _ game goes
 
 -- what a line's move and its release keep of those that had ended
-still_line : (setting : Setting) (txns ns : List ℕ) (txn : ℕ) (lines : List Line) (game : Game) → is_in txn txns ≡ true → IsInOrder setting txns game →
+pub still_line : (setting : Setting) (txns ns : List ℕ) (txn : ℕ) (lines : List Line) (game : Game) → is_in txn txns ≡ true → IsInOrder setting txns game →
     is_some (turn_of setting txn game.turns).outcome ≡ false → (turn_of setting txn game.turns).lines ≡ lines →
     AreStill setting game (plays_line setting txn lines game) ns
 still_line setting txns [] txn lines game number order goes same = tt
@@ -195,7 +195,7 @@ settled_rests setting txns game order some = by_flag (settled setting txns game)
 
 -- Steps.
 
-still_takes : (setting : Setting) (txns ns : List ℕ) (game : Game) (turn : Turn) (line : Line) → IsTurnOf setting txns game turn → is_some turn.outcome ≡ false →
+pub still_takes : (setting : Setting) (txns ns : List ℕ) (game : Game) (turn : Turn) (line : Line) → IsTurnOf setting txns game turn → is_some turn.outcome ≡ false →
     AreStill setting game (takes turn line game) ns
 still_takes setting txns [] game turn line of_game goes = tt
 still_takes setting txns (n ∷ ns) game turn line of_game goes = ((λ is. ended_takes setting txns n game turn line of_game goes is), still_takes setting txns ns game turn line of_game goes)
