@@ -49,3 +49,5 @@ pub mod SmallLaws
 pub mod SumLaws
 pub mod CostLaws
 pub mod FewLaws
+pub mod AloneLaws
+pub mod PlayMoveLaws

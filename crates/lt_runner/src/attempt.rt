@@ -8,6 +8,7 @@ ghost use Rattle.lt_runner.specs.Turn.{reply_in, asked_at, rest_of_release};
 ghost use Rattle.lt_runner.specs.Seats.{idle};
 ghost use Rattle.lt_runner.specs.Plays.{line_question};
 ghost use Rattle.lt_runner.specs.PlaysOn.{IsAskDeed, IsReady, IsFit, IsNext, IsNextLine, IsNextFree, IsKept, PlaysOn, UnlessShort, IsMoved, moved_to};
+ghost use Rattle.lt_runner.specs.PlaysAlone.{IsCaused, IsAtOnce, IsFreedAtOnce, MayPlayAtOnce};
 
 use crate::release::Release;
 use crate::turn::{Moved, Turn};
@@ -75,6 +76,8 @@ impl Turn {
         ensures fit { UnlessShort result (IsFit (Y.setting yard.now) self.new) }
         ensures plays { UnlessShort result (PlaysOn (Y.setting yard.now) [] (Y.Pass.view pass.old) (Y.Pass.view pass.new) self.old self.new) }
         ensures moved { IsMoved self.old self.new result }
+        ensures caused { IsCaused (Y.setting yard.now) (Y.Pass.view pass.old) (Y.Pass.view pass.new) result }
+        ensures alone { IsAtOnce (Y.setting yard.now) (Y.Pass.view pass.old) (Y.Pass.view pass.new) self.old self.new result }
     {
         match yard.ask(pass, self.number(), tree, range, self.is_big()) {
             Ok(receipt) => Ok(self.replied(line, tree, range, reply_in(&receipt.event.deed))?),
@@ -113,6 +116,8 @@ impl Turn {
         ensures fit { UnlessShort result (IsFit (Y.setting yard.now) self.new) }
         ensures plays { UnlessShort result (PlaysOn (Y.setting yard.now) [] (Y.Pass.view pass.old) (Y.Pass.view pass.new) self.old self.new) }
         ensures moved { IsMoved self.old self.new result }
+        ensures caused { IsCaused (Y.setting yard.now) (Y.Pass.view pass.old) (Y.Pass.view pass.new) result }
+        ensures alone { IsAtOnce (Y.setting yard.now) (Y.Pass.view pass.old) (Y.Pass.view pass.new) self.old self.new result }
     {
         let Err(fault) = yard.escalate(pass, self.number(), tree) else {
             self.go_past();
@@ -139,6 +144,8 @@ impl Turn {
         ensures fit { UnlessShort result (IsFit (Y.setting yard.now) self.new) }
         ensures plays { UnlessShort result (PlaysOn (Y.setting yard.now) [] (Y.Pass.view pass.old) (Y.Pass.view pass.new) self.old self.new) }
         ensures moved { IsMoved self.old self.new result }
+        ensures caused { IsCaused (Y.setting yard.now) (Y.Pass.view pass.old) (Y.Pass.view pass.new) result }
+        ensures alone { IsAtOnce (Y.setting yard.now) (Y.Pass.view pass.old) (Y.Pass.view pass.new) self.old self.new result }
     {
         match &line.deed {
             LineDeed::Try { tree, range } | LineDeed::Lock { tree, range } => {
@@ -178,6 +185,9 @@ impl Turn {
         ensures fit { UnlessShort result (IsFit (Y.setting yard.now) self.new) }
         ensures plays { UnlessShort result (PlaysOn (Y.setting yard.now) [] (Y.Pass.view pass.old) (Y.Pass.view pass.new) self.old self.new) }
         ensures freed { IfOk result (λ moved. self.new ≡ record self.old { turn = record self.old.turn { releases = rest_of_release self.old.turn.releases }; busy = false }) }
+        ensures caused { IsCaused (Y.setting yard.now) (Y.Pass.view pass.old) (Y.Pass.view pass.new) result }
+        ensures alone { MayPlayAtOnce (Y.setting yard.now) (Y.Pass.view pass.old) self.old.turn
+            → IsFreedAtOnce (Y.setting yard.now) (Y.Pass.view pass.old) (Y.Pass.view pass.new) self.old.turn release.now result }
     {
         let Err(fault) = yard.free(
             pass,
@@ -205,6 +215,8 @@ impl Turn {
         ensures fit { UnlessShort result (IsFit (Y.setting yard.now) self.new) }
         ensures plays { UnlessShort result (PlaysOn (Y.setting yard.now) [] (Y.Pass.view pass.old) (Y.Pass.view pass.new) self.old self.new) }
         ensures moved { IsMoved self.old self.new result }
+        ensures caused { IsCaused (Y.setting yard.now) (Y.Pass.view pass.old) (Y.Pass.view pass.new) result }
+        ensures alone { IsAtOnce (Y.setting yard.now) (Y.Pass.view pass.old) (Y.Pass.view pass.new) self.old self.new result }
     {
         for _free in 0..self.frees_left() {
             let Some(release) = self.next_free() else {
@@ -238,6 +250,8 @@ impl Turn {
         ensures fit { UnlessShort result (IsFit (Y.setting yard.now) self.new) }
         ensures plays { UnlessShort result (PlaysOn (Y.setting yard.now) [] (Y.Pass.view pass.old) (Y.Pass.view pass.new) self.old self.new) }
         ensures moved { IsMoved self.old self.new result }
+        ensures caused { IsCaused (Y.setting yard.now) (Y.Pass.view pass.old) (Y.Pass.view pass.new) result }
+        ensures alone { IsAtOnce (Y.setting yard.now) (Y.Pass.view pass.old) (Y.Pass.view pass.new) self.old self.new result }
     {
         match self.next_line() {
             Some(line) => self.play_line(yard, pass, &line),

@@ -4,6 +4,8 @@ use Rattle.lt_runner.specs.TurnView.{Turn, Seat}
 use Rattle.lt_runner.specs.Turn.{rest_of_release}
 use Rattle.lt_runner.specs.PlaysOn.{IsFit, PlaysOn, UnlessShort}
 use Rattle.lt_runner.proofs.PlaysOnLaws.{plays_not, plays_then, ready_still, unless_then, length_rest}
+use Rattle.lt_runner.specs.PlaysAlone.{IsCaused, IsFreedAtOnce, MayPlayAtOnce}
+use Rattle.lt_runner.proofs.PlayMoveLaws.{is_caused_since, with_rest, may_still, released_at_once, stopped_by_free}
 use Rattle.lt_runner.proofs.turn.Turn.release.Goals as goal
 
 pub loop-free-init : goal.loop-free-init
@@ -16,6 +18,9 @@ loop-free-init g c =
       turn = refl;
       left = omega arith;
       plays = plays_not setting [] (g.Y.Pass.Pass.view c.args.pass.now) c.args.self.now c.requires.ready.sound;
+      free = λ e. e;
+      listed = refl;
+      alone = λ may. (may, refl);
     }
 
 pub returns-in-Err-clause-plays : goal.returns-in-Err-clause-plays
@@ -59,4 +64,23 @@ loop-free-preserved g c =
       turn = turn_is ∙ ap (λ (rs : List Release). record was.turn { releases = rs }) (sym releases_are);
       left = omega (arith, i.left, long, ap length releases_are);
       plays = plays_then setting [] old before new was between is i.plays plays;
+      free = λ e. ap (λ (s : Seat). s.busy) freed;
+      listed = ap (λ (s : Seat). s.listed) freed ∙ i.listed;
+      alone = λ may.
+          let some = c.in-Some.ensures.some in
+          let here = i.alone may in
+          let front = subst (IsFreedAtOnce setting before new between.turn c.in-Some.release) c.in-Ok.is (c.free.ensures.alone here.0) in
+          let own : is.turn.txn ≡ between.turn.txn = ap (λ (s : Seat). s.turn.txn) freed in
+          (may_still setting before new between.turn is.turn c.in-Some.release some.0 some.1 releases_are plays.goes plays.rights _ front here.0,
+          with_rest setting before new between.turn is.turn c.in-Some.release some.0 some.1 releases_are own front ∙ here.1);
     }
+
+pub returns-in-Err-clause-caused : goal.returns-in-Err-clause-caused
+returns-in-Err-clause-caused g c =
+    let setting = g.Y.Yard.setting c.args.yard.now in
+    let view = g.Y.Pass.Pass.view in
+    let i = c.loop-free.invariant in
+    let fault = c.in-Err.fault in
+    let before = view c.loop-free.pass in
+    let new = view c.free.new.pass in
+    is_caused_since setting (view c.args.pass.now) before new fault i.plays.goes i.plays.rights (subst (IsCaused setting before new) c.in-Err.is c.free.ensures.caused)

@@ -1,6 +1,7 @@
 use Rattle.std.proofs.Common.{◌≡◌, ◌+◌, [], length, IsTrue, is_some, false}
 use Rattle.lt_seq.specs.Yard.{origin_of}
 use Rattle.lt_runner.specs.PlaysOn.{IsReady, IsFit, PlaysOn}
+use Rattle.lt_runner.specs.PlaysAlone.{MayPlayAtOnce, with_frees}
 use Rattle.lt_runner.proofs.turn.Turn.release.Given as goal
 
 -- it was played so far, and as many frees are left as turns of the loop
@@ -15,4 +16,8 @@ invariant-loop-free g l =
       turn : l.self.turn ≡ record l.fn.self.turn { releases = l.self.turn.releases };
       left : length l.self.turn.releases + l._free ≡ length l.fn.self.turn.releases;
       plays : PlaysOn setting [] (view l.fn.pass) (view l.pass) l.fn.self l.self;
+      free : l.fn.self.busy ≡ false → l.self.busy ≡ false;
+      listed : l.self.listed ≡ l.fn.self.listed;
+      alone : MayPlayAtOnce setting (view l.fn.pass) l.fn.self.turn → MayPlayAtOnce setting (view l.pass) l.self.turn
+          × (with_frees setting l.self.turn.txn l.self.turn.releases (view l.pass).front ≡ with_frees setting l.fn.self.turn.txn l.fn.self.turn.releases (view l.fn.pass).front);
     }
