@@ -51,3 +51,4 @@ pub mod CostLaws
 pub mod FewLaws
 pub mod AloneLaws
 pub mod PlayMoveLaws
+pub mod StartedLaws

@@ -7,6 +7,7 @@ pub mod Attempt
 pub mod Plays
 pub mod Serial
 pub mod PlaysAlone
+pub mod StartsAlone
 pub mod Rows
 pub mod RandomTraces
 pub mod RandomJoins

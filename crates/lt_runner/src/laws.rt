@@ -1,4 +1,5 @@
 //! Laws of runs.
+ghost use Rattle.lt_runner.specs.StartsAlone.{StartsAreMoves};
 ghost use Rattle.std.specs.Prelude.{ℕ, false};
 ghost use Rattle.lt_trace.specs.Grammar.{IsTrace};
 ghost use Rattle.lt_trace.specs.Trace.{TraceView};
@@ -43,4 +44,11 @@ pub fn random_traces()
 /// It does so of random traces with joins where there is no room, escalate lines and big transactions.
 pub fn random_joins()
     ensures { RandomJoins }
+{}
+
+/// A start or a retry by a pass that has all the rights, where there are places, is the plain scheduler's move at a `lock`
+/// line: the ask with its joins and its search, and the turn behind it. It is never busy, and the history is not full.
+#[tactic(auto, using(crate::proofs::StartedLaws::started_at_once))]
+pub fn starts_are_moves()
+    ensures { StartsAreMoves }
 {}
