@@ -52,3 +52,13 @@ pub mod FewLaws
 pub mod AloneLaws
 pub mod PlayMoveLaws
 pub mod StartedLaws
+pub mod BoardLaws
+pub mod SeatLaws
+pub mod WaitLaws
+pub mod SweepLaws
+pub mod RoomLaws
+pub mod OnLaws
+pub mod SweepingLaws
+pub mod SeatMoveLaws
+pub mod LockMoveLaws
+pub mod AskLaws

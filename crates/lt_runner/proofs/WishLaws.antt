@@ -92,7 +92,7 @@ wish_number txn (line ∷ lines) w e = by_deed line.deed e
     by_deed (Escalate tree) h = absurd cc
     by_deed Big h = absurd cc
 
-wish_of_number : (turn : Turn) (w : Wish) → wish_of turn ≡ Some w → w.txn ≡ turn.txn
+pub wish_of_number : (turn : Turn) (w : Wish) → wish_of turn ≡ Some w → w.txn ≡ turn.txn
 wish_of_number turn w e = by_test turn.waits e
   where
     by_test : (b : Bool) → (if b then next_wish turn.txn turn.lines else None) ≡ Some w → w.txn ≡ turn.txn

@@ -18,5 +18,6 @@ pub mod Steps
 pub mod Clear
 pub mod Due
 pub mod Settles
+pub mod Board
 pub mod AtOnce
 pub mod Transcript

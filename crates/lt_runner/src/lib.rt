@@ -2,13 +2,19 @@
 #![tactic(auto)]
 
 mod at_once;
+mod alone;
+mod answers;
 mod attempt;
+mod board;
 mod calls;
 pub mod laws;
+mod lines;
 mod play;
 mod recorded;
 mod release;
 mod serial;
+mod steps;
+mod sweeps;
 mod transcript;
 mod turn;
 mod turns;
