@@ -62,3 +62,4 @@ pub mod SweepingLaws
 pub mod SeatMoveLaws
 pub mod LockMoveLaws
 pub mod AskLaws
+pub mod AddedLaws

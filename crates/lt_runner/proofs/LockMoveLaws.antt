@@ -155,7 +155,7 @@ quiet_granted turn wish line rest buffered next lock =
     subst (λ (ls : List Line). (granted_at (record turn { lines = ls }) buffered).waits ≡ false) (sym next)
     (subst (λ (d : LineDeed). (granted_at (record turn { lines = record line { deed = d } ∷ rest }) buffered).waits ≡ false) (sym lock) refl)
 
-own_turn : (setting : Setting) (txns : List ℕ) (txn : ℕ) (events : List Event) (board : BoardView) → IsBoard setting txns events board → is_in txn txns ≡ true →
+pub own_turn : (setting : Setting) (txns : List ℕ) (txn : ℕ) (events : List Event) (board : BoardView) → IsBoard setting txns events board → is_in txn txns ≡ true →
     turn_of setting (turn_on setting txn board).txn (turns_of board.seats) ≡ turn_on setting txn board
 own_turn setting txns txn events board stands number = (the_turn setting txns txn (game_on events board) number stands.order).there
 

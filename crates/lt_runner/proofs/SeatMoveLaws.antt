@@ -50,7 +50,7 @@ pub record IsSeat (setting : Setting) (txn : ℕ) (board : BoardView) (place : �
   pub here : seat.turn ≡ turn_on setting txn board
   pub calm : IsCalm seat
 
-calm_at : (seats : List Seat) (place : ℕ) (d : Seat) → AllByRecursion IsCalm seats → place < length seats → IsCalm (get_or seats place d)
+pub calm_at : (seats : List Seat) (place : ℕ) (d : Seat) → AllByRecursion IsCalm seats → place < length seats → IsCalm (get_or seats place d)
 calm_at [] place d all inside = absurd (omega arith)
 calm_at (s ∷ ss) zero d all inside = all.0
 calm_at (s ∷ ss) (suc place) d all inside = calm_at ss place d all.1 (omega arith)
