@@ -9,7 +9,7 @@ use std::alloc::{AllocError as OutOfMemory, Global};
 use std::marker::Model;
 
 /// Ranges in the order in which they were appended, as bytes: a record each.
-#[derive(Drop)]
+#[derive(Debug, Drop)]
 pub struct RangeBuffer {
     bytes: Vec<u8>,
     len: usize,

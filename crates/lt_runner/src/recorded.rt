@@ -3,6 +3,7 @@ ghost use Rattle.std.specs.Prelude.{◌≡◌, ◌≤◌, [], ◌∷◌, ◌++�
 ghost use Rattle.lt_runner.specs.Turn.{nothing_recorded, releases_by, releases_in, releases_from};
 
 use crate::release::Release;
+use lt_range_buffer::RangeBuffer;
 use lt_ranges::KeyRange;
 use std::alloc::{AllocError, Global};
 use std::collections::VecDeque;
@@ -11,7 +12,7 @@ use std::marker::Model;
 /// What a transaction was granted in a tree.
 #[derive(Debug, Drop)]
 pub(crate) struct Recorded {
-    ranges: Vec<KeyRange>,
+    ranges: RangeBuffer,
     /// Whether the last grant went into a buffer, which one free gives back whole.
     buffered: bool,
 }
@@ -21,7 +22,7 @@ impl Model for Recorded {
 
     ghost Value = { Record };
 
-    ghost view = { λ r. record { ranges = r.ranges.items; buffered = r.buffered } };
+    ghost view = { λ r. record { ranges = r.ranges; buffered = r.buffered } };
 }
 
 impl Recorded {
@@ -29,7 +30,7 @@ impl Recorded {
         ensures { result ≡ nothing_recorded }
     {
         Recorded {
-            ranges: Vec::new(alloc),
+            ranges: RangeBuffer::new(alloc),
             buffered: false,
         }
     }
@@ -39,7 +40,7 @@ impl Recorded {
         ensures added { OnOk result (self.new ≡ record { ranges = self.old.ranges ++ range.now ∷ []; buffered = buffered }) }
         ensures same { OnErr result (self.new ≡ self.old) }
     {
-        self.ranges.push(*range)?;
+        self.ranges.append(range)?;
         self.buffered = buffered;
         Ok(())
     }
@@ -63,16 +64,16 @@ impl Recorded {
 /// Puts one free for each range behind others, the first one marked.
 fn add_ranges(
     tree: u32,
-    ranges: &[KeyRange],
+    ranges: &RangeBuffer,
     releases: &mut VecDeque<Release>,
 ) -> Result<(), AllocError>
     ensures { OnOk result (releases.new.items ≡ releases.old.items ++ releases_by tree true ranges.now) }
 {
     let mut first = true;
-    for range in ranges {
+    for range in ranges.iter() {
         releases.push_back(Release {
             tree,
-            range: *range,
+            range,
             first,
         })?;
         first = false;
