@@ -2,6 +2,8 @@
 use Rattle.std.proofs.Common.{◌≡◌, ℕ, suc, ◌+◌, ◌^◌, ◌<◌, ◌≤◌, List, [], ◌∷◌, ◌++◌, length, slice_set, map, refl, sym, ap, subst, ◌∙◌, arith, length-append}
 use Rattle.lt_seq.specs.declared.event.JoinNote.{JoinNote}
 use Rattle.lt_seq.specs.declared.event.Receipt.{Receipt}
+use Rattle.lt_seq.specs.declared.event.Reply.{Reply}
+use Rattle.lt_seq.specs.declared.event.Reply.TheVariants.{Granted, Buffered, HeldBy}
 use Rattle.lt_seq.specs.declared.plan.YardPlan.{YardPlan}
 use Rattle.lt_seq.specs.Table.{Setting, TreeState, step, tree_at, tree_of, tree_after, replied, used}
 use Rattle.lt_seq.specs.Pairs.{IsLawful}
@@ -43,6 +45,12 @@ sound_of plan number rights trees mine notes seq = record { legal = seq.legal; m
 pub used_fits : (plan : YardPlan) (number rights : ℕ) (trees : List TreeState) (mine : List Receipt) → IsSequential plan number rights trees mine → used trees ≤ 2 ^ 39
 used_fits plan number rights trees mine seq =
     omega (arith, ap used seq.trees, used_most (plain plan) (events_of mine) seq.legal, length-events_of mine, seq.room)
+
+-- what holds with any reply but one, and with that one too
+pub with_any_reply : (reply : Reply) (P : Type 0) → ((reply ≡ Buffered → ⊥) → P) → (reply ≡ Buffered → P) → P
+with_any_reply Granted P others one = others (λ e. cc)
+with_any_reply Buffered P others one = one refl
+with_any_reply (HeldBy owners) P others one = others (λ e. cc)
 
 -- a deed at a tree, with its replies, and what it leaves there
 pub record MadeAt (plan : YardPlan) (number : ℕ) (trees : List TreeState) (mine : List Receipt) (receipt : Receipt) (moved : TreeState) : Type 0 where

@@ -46,6 +46,7 @@ pub(crate) fn free(pairs: &mut Vec<Pair>, txn: u64, range: &KeyRange) -> usize
     ensures pairs { pairs.new.items ≡ freed txn range.now pairs.old.items }
     ensures room { vec_capacity pairs.new ≡ vec_capacity pairs.old }
     ensures fewer { vec_len pairs.new ≤ vec_len pairs.old }
+    ensures ordered { IsInterval range.now }
 {
     let Range { start, end } = window(pairs, range);
     let kept = start + keep_others(&mut pairs[start..end], txn);
@@ -66,6 +67,7 @@ pub fn grant(pairs: &mut Vec<Pair>, txn: u64, range: &KeyRange) -> Result<(), Al
     requires unopposed { others txn range.now pairs.old.items ≡ [] }
     ensures ok { OnOk result (pairs.new.items ≡ granted txn range.now pairs.old.items) }
     ensures err { OnErr result (pairs.new.items ≡ pairs.old.items) }
+    ensures ordered { IsInterval range.now }
 {
     let Range { start, end } = window(pairs, range);
     let joined = Pair {
@@ -89,7 +91,8 @@ pub(crate) fn others_of(
     range: &KeyRange,
 ) -> Result<Vec<u64>, AllocError>
     requires { IsLawful pairs.now }
-    ensures { IfOk result (λ v. v.items ≡ others txn range.now pairs.now) }
+    ensures others { IfOk result (λ v. v.items ≡ others txn range.now pairs.now) }
+    ensures ordered { IsInterval range.now }
 {
     let mut owners: Vec<u64> = pairs[window(pairs, range)]
         .iter()

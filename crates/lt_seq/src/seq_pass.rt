@@ -117,8 +117,6 @@ impl SeqPass {
         ensures ok { IfOk result (λ r. OneMore (plain self.old.plan) self.old.view self.new.view txn (Ask tree range.now Granted) r) }
         ensures err { OnErr result (self.new ≡ self.old) }
     {
-        // For the prover: a range that was read has its left end at most at its right one.
-        let _left = range.left();
         let reply = self
             .trees
             .reply(tree, self.alloc, self.plan.buffer, txn, range)?;
@@ -163,8 +161,6 @@ impl SeqPass {
         ensures ok { IfOk result (λ r. OneMore (plain self.old.plan) self.old.view self.new.view txn (Free tree range.now first 0) r) }
         ensures err { OnErr result (self.new ≡ self.old) }
     {
-        // For the prover: a range that was read has its left end at most at its right one.
-        let _left = range.left();
         self.mine.reserve(1)?;
         let place = self.plan.first + self.mine.len() as u64;
         let count = self.trees.free(tree, txn, range, first);
@@ -207,8 +203,6 @@ impl SeqPass {
         ensures ok { IfOk result (λ r. OneMore (plain self.old.plan) self.old.view self.new.view txn (Who tree range.now as_txn []) r) }
         ensures err { OnErr result (self.new ≡ self.old) }
     {
-        // For the prover: a range that was read has its left end at most at its right one.
-        let _left = range.left();
         let owners = self.trees.owners(tree, self.alloc, as_txn, range)?;
         let kept = owners.again()?;
         self.mine.reserve(1)?;

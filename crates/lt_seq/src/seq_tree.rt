@@ -1,5 +1,7 @@
 //! One tree of the plain table.
 ghost use Rattle.std.specs.Prelude.{◌≡◌, ◌++◌, [], length, OnOk, OnErr, IfOk};
+ghost use Rattle.lt_ranges.specs.Interval.{IsInterval};
+ghost use Rattle.lt_seq.specs.declared.event.Reply.TheVariants.{Buffered};
 ghost use Rattle.lt_seq.specs.Table.{fresh, rows_in, ended, is_whole, is_buffered, ask_reply};
 ghost use Rattle.lt_seq.specs.Table.{after_ask, free_count, after_free, mode_asked, held_in};
 ghost use Rattle.lt_seq.specs.Pairs.{IsLawful, others, joined};
@@ -40,7 +42,8 @@ fn ended(mode: Mode) -> Mode
 
 /// Whether the range goes from one end to the other.
 fn is_whole(range: &KeyRange) -> bool
-    ensures { result ≡ is_whole range.now }
+    ensures whole { result ≡ is_whole range.now }
+    ensures ordered { IsInterval range.now }
 {
     range.left().is_at_most(&Key::Below) && Key::Above.is_at_most(&range.right())
 }
@@ -85,7 +88,8 @@ impl SeqTree {
         range: &KeyRange,
     ) -> Result<Reply, AllocError>
         requires { IsLawful self.now.pairs }
-        ensures { IfOk result (λ reply. reply ≡ ask_reply buffer txn range.now self.now) }
+        ensures reply { IfOk result (λ reply. reply ≡ ask_reply buffer txn range.now self.now) }
+        ensures ordered { IfOk result (λ reply. (¬ (reply ≡ Buffered)) → IsInterval range.now) }
     {
         if self.is_buffered(buffer, txn) {
             return Ok(Reply::Buffered);
@@ -110,6 +114,7 @@ impl SeqTree {
         requires reply { reply.now ≡ ask_reply buffer txn range.now self.old }
         ensures ok { OnOk result (self.new ≡ after_ask buffer txn range.now self.old) }
         ensures err { OnErr result (self.new ≡ self.old) }
+        ensures ordered { reply.now ≡ Buffered → IsInterval range.now }
     {
         match reply {
             Reply::Granted => {
@@ -137,6 +142,7 @@ impl SeqTree {
         requires { IsLawful self.old.pairs }
         ensures count { result ≡ free_count txn range.now self.old }
         ensures after { self.new ≡ after_free txn range.now first self.old }
+        ensures ordered { IsInterval range.now }
     {
         if let Mode::Buffer { txn: owner, .. } = self.mode
             && owner == txn
@@ -163,7 +169,8 @@ impl SeqTree {
         range: &KeyRange,
     ) -> Result<Owners, AllocError>
         requires { IsLawful self.now.pairs }
-        ensures { IfOk result (λ owners. owners ≡ others named range.now self.now.pairs) }
+        ensures owners { IfOk result (λ owners. owners ≡ others named range.now self.now.pairs) }
+        ensures ordered { IsInterval range.now }
     {
         Ok(Owners::of(others_of(alloc, &self.pairs, named, range)?))
     }

@@ -1,5 +1,7 @@
 //! The trees of the plain table.
 ghost use Rattle.std.specs.Prelude.{◌≡◌, ◌^◌, ◌≤◌, ◌<◌, [], replicate, length, slice_set, OnOk, OnErr, IfOk};
+ghost use Rattle.lt_ranges.specs.Interval.{IsInterval};
+ghost use Rattle.lt_seq.specs.declared.event.Reply.TheVariants.{Buffered};
 ghost use Rattle.lt_seq.specs.Table.{fresh, tree_at, used, ask_reply, after_ask, free_count, after_free, mode_asked, ended};
 ghost use Rattle.lt_seq.specs.Pairs.{IsLawful, others, joined};
 ghost use Rattle.lt_seq.specs.Sound.{IsSoundTree};
@@ -62,7 +64,8 @@ impl SeqTrees {
     ) -> Result<Reply, AllocError>
         requires tree { tree < length self.now }
         requires lawful { IsLawful (tree_at self.now tree).pairs }
-        ensures { IfOk result (λ reply. reply ≡ ask_reply buffer txn range.now (tree_at self.now tree)) }
+        ensures reply { IfOk result (λ reply. reply ≡ ask_reply buffer txn range.now (tree_at self.now tree)) }
+        ensures ordered { IfOk result (λ reply. (¬ (reply ≡ Buffered)) → IsInterval range.now) }
     {
         self.list[tree as usize].reply(alloc, buffer, txn, range)
     }
@@ -81,6 +84,7 @@ impl SeqTrees {
         requires reply { reply.now ≡ ask_reply buffer txn range.now (tree_at self.old tree) }
         ensures ok { OnOk result (self.new ≡ slice_set self.old tree (after_ask buffer txn range.now (tree_at self.old tree))) }
         ensures err { OnErr result (self.new ≡ self.old) }
+        ensures ordered { reply.now ≡ Buffered → IsInterval range.now }
     {
         self.list[tree as usize].ask(buffer, txn, range, reply)
     }
@@ -91,6 +95,7 @@ impl SeqTrees {
         requires lawful { IsLawful (tree_at self.old tree).pairs }
         ensures count { result ≡ free_count txn range.now (tree_at self.old tree) }
         ensures after { self.new ≡ slice_set self.old tree (after_free txn range.now first (tree_at self.old tree)) }
+        ensures ordered { IsInterval range.now }
     {
         self.list[tree as usize].free(txn, range, first)
     }
@@ -105,7 +110,8 @@ impl SeqTrees {
     ) -> Result<Owners, AllocError>
         requires tree { tree < length self.now }
         requires lawful { IsLawful (tree_at self.now tree).pairs }
-        ensures { IfOk result (λ owners. owners ≡ others named range.now (tree_at self.now tree).pairs) }
+        ensures owners { IfOk result (λ owners. owners ≡ others named range.now (tree_at self.now tree).pairs) }
+        ensures ordered { IsInterval range.now }
     {
         self.list[tree as usize].owners(alloc, named, range)
     }

@@ -1,5 +1,6 @@
 use Rattle.std.proofs.Common.{◌≡◌, ap, arith, rules, refl, ◌+◌, length}
-use Rattle.lt_seq.proofs.SeqLaws.{trees_there, sound_there, lawful_there, sequential_to, sound_of, length-events_of}
+use Rattle.lt_seq.proofs.SeqLaws.{trees_there, sound_there, lawful_there, sequential_to, sound_of, length-events_of, with_any_reply}
+use Rattle.lt_ranges.specs.Interval.{IsInterval}
 use Rattle.lt_seq.specs.declared.event.Deed.TheVariants.{Ask}
 use Rattle.lt_seq.specs.SeqPass.{IsSequential}
 use Rattle.lt_seq.specs.Table.{ask_reply, tree_at}
@@ -31,7 +32,7 @@ next c =
       place = grind arith;
       room = omega (arith, ap (λ p. p.plan.first) is, ap (λ p. length p.view.front) is, length-events_of inside.mine.items, c.requires.room);
       tree = omega (arith, ap (λ p. p.plan.trees) is);
-      question = c.left-left.ensures.ordered;
+      question = with_any_reply c.in_ok-reply.reply (IsInterval c.args.range.now) c.in_ok-reply.ensures.ordered c.ask.ensures.ordered;
       replies = ap (Ask c.args.tree c.args.range.now) reply;
       moved_is = refl;
     })

@@ -24,7 +24,7 @@ next c =
       place = grind arith;
       room = omega (arith, ap (λ p. p.plan.first) is, ap (λ p. length p.view.front) is, length-events_of inside.mine.items, c.requires.room);
       tree = omega (arith, ap (λ p. p.plan.trees) is);
-      question = c.left-left.ensures.ordered;
+      question = c.free-count.ensures.ordered;
       replies = ap (Free c.args.tree c.args.range.now c.args.first) c.free-count.ensures.count;
       moved_is = refl;
     })
