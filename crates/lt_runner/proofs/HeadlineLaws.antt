@@ -19,7 +19,7 @@ use Rattle.lt_runner.proofs.OrderLaws.{ascending_sorted}
 use Rattle.lt_runner.proofs.StepLaws.{holds_played}
 use Rattle.lt_runner.proofs.WholeLaws.{Runs, runs_keeps, runs_out, opening_runs}
 use Rattle.lt_runner.proofs.FitLaws.{fit_of_trace}
-use Rattle.lt_runner.proofs.EndLaws.{plays_out}
+use Rattle.lt_runner.proofs.EndLaws.{PlaysOut, plays_out}
 use Rattle.lt_runner.proofs.DueGameLaws.{due_plays, due_gives, due_takes, due_opening}
 use Rattle.lt_runner.proofs.StuckLaws.{IsBetween, KeepsDue, never_stuck, opening_between}
 
@@ -51,6 +51,20 @@ keeps_due setting txns lines keeps = record {
   due = λ left game is. is.due;
 }
 
+-- All of them have ended behind the last round.
+pub played_out : (trace : TraceView) (first : ℕ) → AllByRecursion (IsFit (setting_of trace 1 first) (txns_of trace.lines)) trace.lines →
+    PlaysOut (setting_of trace 1 first) (txns_of trace.lines) (game_of trace first)
+played_out trace first fit =
+    let setting = setting_of trace 1 first in
+    let lines = trace.lines in
+    let txns = txns_of lines in
+    let sorted = ascending_sorted (map (λ (line : Line). line.txn) lines) in
+    let keeps = runs_keeps setting txns lines (omega arith) in
+    let start = opening_runs setting txns lines in
+    plays_out setting txns (IsBetween setting txns (RunsDue setting txns lines)) lines
+    (never_stuck setting txns (RunsDue setting txns lines) (keeps_due setting txns lines keeps)) sorted fit
+    (opening_between setting txns (RunsDue setting txns lines) lines sorted (record { runs = start; due = due_opening setting txns }))
+
 -- Of lines of any form that fit.
 pub text_of_run : (trace : TraceView) (first : ℕ) → (let setting = setting_of trace 1 first in let txns = txns_of trace.lines in
     AllByRecursion (IsFit setting txns) trace.lines → IsRunText false setting trace.lines (ran_text (serial trace first)))
@@ -63,9 +77,7 @@ text_of_run trace first fit =
     let keeps = runs_keeps setting txns lines (omega arith) in
     let start = opening_runs setting txns lines in
     let runs = holds_played setting txns (Runs setting txns lines) lines keeps sorted fit start in
-    let out = plays_out setting txns (IsBetween setting txns (RunsDue setting txns lines)) lines
-    (never_stuck setting txns (RunsDue setting txns lines) (keeps_due setting txns lines keeps)) sorted fit
-    (opening_between setting txns (RunsDue setting txns lines) lines sorted (record { runs = start; due = due_opening setting txns })) in
+    let out = played_out trace first fit in
     let run = runs_out setting lines game out.numbers_are out.over runs.holds.is in (
       game.events,
       run.0,

@@ -257,7 +257,7 @@ owes_back setting txns txn (r ∷ rs) game number order owed =
     (in_order_with setting txns next.events game.released game (turn_after turn move) order (steady_freed setting turn (turn_has (IsSteady setting) setting txns game turn of_game order.steady)))
     (ap (λ (t : Turn). t.releases) there ∙ ap rest_of_release owed)
 
-owes_settles : (setting : Setting) (txns : List ℕ) (txn : ℕ) (game : Game) → is_in txn txns ≡ true → IsInOrder setting txns game →
+pub owes_settles : (setting : Setting) (txns : List ℕ) (txn : ℕ) (game : Game) → is_in txn txns ≡ true → IsInOrder setting txns game →
     Owes (turn_of setting txn (settles setting (turn_of setting txn game.turns) game).turns)
 owes_settles setting txns txn game number order = by_outcome (is_some turn.outcome) refl
   where

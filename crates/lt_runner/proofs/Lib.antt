@@ -41,6 +41,7 @@ pub mod RunLaws
 pub mod WholeLaws
 pub mod OrderLaws
 pub mod HeadlineLaws
+pub mod NothingLaws
 pub mod AskedLaws
 pub mod ListLaws
 pub mod AnswerLaws

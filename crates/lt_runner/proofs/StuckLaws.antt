@@ -34,7 +34,7 @@ use Rattle.lt_runner.proofs.ClearLaws.{absent_turn, not_both, no_step}
 use Rattle.lt_runner.proofs.SweptLaws.{IsOne, Legally, clear_swept, clear_settled, clear_added}
 
 -- it is one of these and has not ended
-abbrev IsOpen : Setting → List ℕ → Game → ℕ → Type 0
+abbrev pub IsOpen : Setting → List ℕ → Game → ℕ → Type 0
 IsOpen setting txns game n = IsOne txns n × (has_ended setting n game ≡ false)
 
 -- Who holds goes on.
@@ -58,14 +58,11 @@ nothing_at (suc n) (suc k) = nothing_at n k
 none_given : (owner : ℕ) (ranges : List Interval) → ranges ≡ [] → IsToGive owner ranges → ⊥
 none_given owner ranges none gives = subst (OverlapsOne gives.range) none gives.some
 
-holder_goes : (setting : Setting) (txns : List ℕ) (game : Game) (tree owner : ℕ) (range : Interval) → AreAtRest setting txns game →
-    AllAreDue setting game →
-    Meets owner range (PairsAt (after setting game.events) tree) → IsOpen setting txns game owner
-holder_goes setting txns game tree owner range at_rest due meets = by_number (is_in owner txns) refl
+-- who is to give back something, between two steps, is one of the transactions, and has not ended
+pub giver_goes : (setting : Setting) (txns : List ℕ) (game : Game) (tree owner : ℕ) → AreAtRest setting txns game →
+    IsToGive owner (due_at setting game tree owner) → IsOpen setting txns game owner
+giver_goes setting txns game tree owner at_rest gives = by_number (is_in owner txns) refl
   where
-    gives : IsToGive owner (due_at setting game tree owner)
-    gives = to_give (due_at setting game tree) owner range (PairsAt (after setting game.events) tree) meets (due tree)
-
     by_outcome : is_in owner txns ≡ true → (b : Bool) → has_ended setting owner game ≡ b → IsOpen setting txns game owner
     by_outcome there false e = (there, e)
     by_outcome there true e =
@@ -80,6 +77,12 @@ holder_goes setting txns game tree owner range at_rest due meets = by_number (is
         absurd (none_given owner (due_at setting game tree owner)
         (ap (due_in tree) (absent_turn setting owner game.turns (ap (is_in owner) at_rest.order.numbers ∙ out))
         ∙ ap (λ (r : Recorded). r.ranges) (nothing_at setting.plan.trees tree)) gives)
+
+holder_goes : (setting : Setting) (txns : List ℕ) (game : Game) (tree owner : ℕ) (range : Interval) → AreAtRest setting txns game →
+    AllAreDue setting game →
+    Meets owner range (PairsAt (after setting game.events) tree) → IsOpen setting txns game owner
+holder_goes setting txns game tree owner range at_rest due meets =
+    giver_goes setting txns game tree owner at_rest (to_give (due_at setting game tree) owner range (PairsAt (after setting game.events) tree) meets (due tree))
 
 -- Who goes on and is not ready waits.
 

@@ -17,6 +17,7 @@ pub mod Played
 pub mod Steps
 pub mod Clear
 pub mod Due
+pub mod Nothing
 pub mod Settles
 pub mod Board
 pub mod AtOnce

@@ -1,4 +1,5 @@
 //! Laws of runs.
+ghost use Rattle.lt_runner.specs.Nothing.{ReleasesLeaveNothing, RunsLeaveNothing};
 ghost use Rattle.lt_runner.specs.StartsAlone.{StartsAreMoves};
 ghost use Rattle.std.specs.Prelude.{ℕ, false};
 ghost use Rattle.lt_trace.specs.Grammar.{IsTrace};
@@ -51,4 +52,17 @@ pub fn random_joins()
 #[tactic(auto, using(crate::proofs::StartedLaws::started_at_once))]
 pub fn starts_are_moves()
     ensures { StartsAreMoves }
+{}
+
+/// Where each pair overlaps what its owner recorded, or what is left of its release, a transaction that has ended has no pair
+/// in any tree once its release is over.
+#[tactic(auto, using(crate::proofs::NothingLaws::releases_leave_nothing))]
+pub fn releases_leave_nothing()
+    ensures { ReleasesLeaveNothing }
+{}
+
+/// At the end of a run of the plain scheduler nothing is held.
+#[tactic(auto, using(crate::proofs::NothingLaws::runs_leave_nothing))]
+pub fn runs_leave_nothing()
+    ensures { RunsLeaveNothing }
 {}
