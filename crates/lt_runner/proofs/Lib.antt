@@ -64,3 +64,4 @@ pub mod SeatMoveLaws
 pub mod LockMoveLaws
 pub mod AskLaws
 pub mod AddedLaws
+pub mod WholeRunLaws

@@ -12,6 +12,7 @@ mod lines;
 mod play;
 mod recorded;
 mod release;
+mod run;
 mod serial;
 mod steps;
 mod sweeps;
