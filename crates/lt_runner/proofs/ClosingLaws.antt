@@ -1,15 +1,15 @@
 -- What is left at the end of a run.
 use Rattle.std.specs.Global.{Vec}
-use Rattle.std.proofs.Common.{◌≡◌, ℕ, ◌+◌, List, [], ◌∷◌, ◌++◌, true, false, ◌==◌, Option, Some, None, is_some, option_map, slice_set, map, length, refl, sym, ap, subst, ◌∙◌, arith}
-use Rattle.std.specs.List.{All, filter_map, cons_option}
+use Rattle.std.proofs.Common.{◌≡◌, ℕ, ◌+◌, List, [], ◌∷◌, ◌++◌, Bool, true, false, ◌==◌, Option, Some, None, is_some, option_map, slice_set, map, length, ◌≤◌, refl, sym, ap, subst, ◌∙◌, arith}
+use Rattle.std.specs.List.{AllByRecursion, filter_map, cons_option}
 use Rattle.std.proofs.lemmas.Bool.Decides.{nat_tests}
 use Rattle.std.proofs.lemmas.List.{length-append, length-map}
-use Rattle.std.proofs.lemmas.List.Elements.{All-head, All-tail}
 use Rattle.lt_seq.specs.declared.event.Event.{Event}
 use Rattle.lt_seq.specs.declared.event.Receipt.{Receipt}
 use Rattle.lt_seq.specs.Table.{Setting, TreeState, opening, step, used}
 use Rattle.lt_trace.specs.Trace.{TraceView}
-use Rattle.lt_trace.specs.Grammar.{txns_of}
+use Rattle.lt_trace.specs.declared.line.Line.{Line}
+use Rattle.lt_trace.specs.Grammar.{txns_of, IsTrace}
 use Rattle.lt_seq.specs.History.{IsLegalFrom, IsLegal, calls_from, after}
 use Rattle.lt_seq.specs.declared.yard.Closed.{Closed}
 use Rattle.lt_seq.specs.Passes.{IsRest, numbers_from, opening_passes, front_of_first}
@@ -18,10 +18,16 @@ use Rattle.lt_seq.specs.Questions.{all_receipts}
 use Rattle.lt_history.specs.declared.outcome.Outcome.{Outcome}
 use Rattle.lt_history.specs.declared.outcome.Ended.{Ended}
 use Rattle.lt_runner.specs.TurnView.{Turn}
-use Rattle.lt_runner.specs.Serial.{Game, game_at, ended_in, played, setting_of, game_of, serial}
+use Rattle.lt_runner.specs.Serial.{Game, game_at, ended_in, played, setting_of, game_of, serial, most_events}
+use Rattle.lt_runner.specs.Board.{BoardView, Shows, game_on}
+use Rattle.lt_runner.proofs.FitLaws.{fit_of_trace}
+use Rattle.lt_runner.proofs.FewLaws.{few_events}
+use Rattle.lt_runner.proofs.HeadlineLaws.{played_out}
+use Rattle.lt_runner.proofs.WholeRunLaws.{ended_turns}
 use Rattle.lt_runner.specs.Transcript.{Tells}
-use Rattle.lt_runner.specs.AtOnce.{HasEnded, numbers_of}
-use Rattle.lt_runner.proofs.TurnsLaws.{on_true}
+use Rattle.lt_runner.specs.Played.{IsOver}
+use Rattle.lt_runner.proofs.AttemptLaws.{seat_at}
+use Rattle.lt_runner.proofs.ChoiceLaws.{on_true}
 
 -- the only pass made each call
 calls_all : (setting : Setting) (place : ℕ) (trees : List TreeState) (events : List Event) → setting.plan.passes ≡ 1 → IsLegalFrom setting trees events → calls_from place 0 events ≡ all_receipts place events
@@ -36,12 +42,12 @@ last_of_one f [] x y e = cc
 last_of_one f (z ∷ zs) x y e = absurd (omega (arith, ap length e, length-map (zs ++ x ∷ []) f, length-append zs (x ∷ [])))
 
 -- a turn that has ended has an outcome
-pub numbers_ended : (turns : List Turn) → All HasEnded turns → map (λ (ended : Ended). ended.txn) (filter_map ended_in turns) ≡ numbers_of turns
+pub numbers_ended : (turns : List Turn) → AllByRecursion (λ t. IsOver (seat_at t)) turns → map (λ (ended : Ended). ended.txn) (filter_map ended_in turns) ≡ map (λ t. t.txn) turns
 numbers_ended [] all = refl
-numbers_ended (t ∷ ts) all = by_outcome t.outcome (All-head HasEnded t ts all) (numbers_ended ts (All-tail HasEnded t ts all))
+numbers_ended (t ∷ ts) all = by_outcome t.outcome all.0.0 (numbers_ended ts all.1)
   where
-    by_outcome : (outcome : Option Outcome) → is_some outcome ≡ true → map (λ (ended : Ended). ended.txn) (filter_map ended_in ts) ≡ numbers_of ts →
-        map (λ (ended : Ended). ended.txn) (cons_option (option_map (λ (o : Outcome). record { txn = t.txn; outcome = o }) outcome) (filter_map ended_in ts)) ≡ t.txn ∷ numbers_of ts
+    by_outcome : (outcome : Option Outcome) → is_some outcome ≡ true → map (λ (ended : Ended). ended.txn) (filter_map ended_in ts) ≡ map (λ t. t.txn) ts →
+        map (λ (ended : Ended). ended.txn) (cons_option (option_map (λ (o : Outcome). record { txn = t.txn; outcome = o }) outcome) (filter_map ended_in ts)) ≡ t.txn ∷ map (λ u. u.txn) ts
     by_outcome None e rest = cc
     by_outcome (Some outcome) e rest = ap (λ ns. t.txn ∷ ns) rest
 
@@ -62,11 +68,11 @@ receipts_are setting events passes closed front receipts one legal rest is =
     ∙ calls_all setting setting.plan.first (opening setting) events one legal
 
 -- so that the transcript tells what the scheduler does
-tells_here : (trace : TraceView) (first : ℕ) (events : List Event) (turns : List Turn) (passes : List PassView) (closed : Closed) (outcomes : Vec Ended) (front : List (Vec Receipt)) (receipts : Vec Receipt) →
-    IsLegal (setting_of trace 1 first) events → game_at events turns false ≡ game_of trace first → IsRest (setting_of trace 1 first) events passes closed →
+tells_here : (trace : TraceView) (first : ℕ) (events : List Event) (turns : List Turn) (released : Bool) (passes : List PassView) (closed : Closed) (outcomes : Vec Ended) (front : List (Vec Receipt)) (receipts : Vec Receipt) →
+    IsLegal (setting_of trace 1 first) events → game_at events turns released ≡ game_of trace first → IsRest (setting_of trace 1 first) events passes closed →
     closed.lists.items ≡ front ++ receipts ∷ [] → outcomes.items ≡ filter_map ended_in turns →
     Tells (serial trace first) (record { receipts = receipts; outcomes = outcomes; places = closed.places; used = closed.used })
-tells_here trace first events turns passes closed outcomes front receipts legal game rest lists ends =
+tells_here trace first events turns released passes closed outcomes front receipts legal game rest lists ends =
     let setting = setting_of trace 1 first in
     let happened : events ≡ (game_of trace first).events = ap (λ (g : Game). g.events) game in
     record {
@@ -76,11 +82,35 @@ tells_here trace first events turns passes closed outcomes front receipts legal 
       used = rest.used ∙ ap (λ es. used (after setting es)) happened;
     }
 
-pub tells : (trace : TraceView) (first : ℕ) (setting : Setting) (events : List Event) (turns : List Turn) (passes : List PassView) (closed : Closed) (outcomes : Vec Ended) (front : List (Vec Receipt)) (receipts : Vec Receipt) →
-    setting ≡ setting_of trace 1 first → IsLegal setting events → game_at events turns false ≡ played setting (txns_of trace.lines) trace.lines → IsRest setting events passes closed →
+pub tells : (trace : TraceView) (first : ℕ) (setting : Setting) (events : List Event) (turns : List Turn) (released : Bool) (passes : List PassView) (closed : Closed) (outcomes : Vec Ended) (front : List (Vec Receipt)) (receipts : Vec Receipt) →
+    setting ≡ setting_of trace 1 first → IsLegal setting events → game_at events turns released ≡ played setting (txns_of trace.lines) trace.lines → IsRest setting events passes closed →
     closed.lists.items ≡ front ++ receipts ∷ [] → outcomes.items ≡ filter_map ended_in turns →
     Tells (serial trace first) (record { receipts = receipts; outcomes = outcomes; places = closed.places; used = closed.used })
-tells trace first setting events turns passes closed outcomes front receipts same legal game rest lists ends =
-    let P = λ (s : Setting). IsLegal s events → game_at events turns false ≡ played s (txns_of trace.lines) trace.lines → IsRest s events passes closed →
+tells trace first setting events turns released passes closed outcomes front receipts same legal game rest lists ends =
+    let P = λ (s : Setting). IsLegal s events → game_at events turns released ≡ played s (txns_of trace.lines) trace.lines → IsRest s events passes closed →
     Tells (serial trace first) (record { receipts = receipts; outcomes = outcomes; places = closed.places; used = closed.used }) in
-    subst P (sym same) (λ l g r. tells_here trace first events turns passes closed outcomes front receipts l g r lists ends) legal game rest
+    subst P (sym same) (λ l g r. tells_here trace first events turns released passes closed outcomes front receipts l g r lists ends) legal game rest
+
+-- What the last board tells.
+
+pub record IsClosing (trace : TraceView) (first : ℕ) (events : List Event) (board : BoardView) : Type 0 where
+  pub game_is : game_on events board ≡ game_of trace first
+
+pub closing : (trace : TraceView) (first : ℕ) (setting : Setting) (txns : List ℕ) (lines : List Line) (events : List Event) (board : BoardView) → setting ≡ setting_of trace 1 first → lines ≡ trace.lines →
+    Shows setting (txns_of lines) events board (played setting (txns_of lines) lines) → IsClosing trace first events board
+closing trace first setting txns lines events board same all shows =
+    record { game_is = shows.game_is ∙ ap (λ (s : Setting). played s (txns_of lines) lines) same ∙ ap (λ (ls : List Line). played (setting_of trace 1 first) (txns_of ls) ls) all }
+
+-- each of them has ended
+pub numbers_told : (trace : TraceView) (first : ℕ) (events : List Event) (board : BoardView) (outcomes : Vec Ended) → IsTrace trace → IsClosing trace first events board →
+    outcomes.items ≡ filter_map (λ seat. ended_in seat.turn) board.seats → map (λ (ended : Ended). ended.txn) outcomes.items ≡ txns_of trace.lines
+numbers_told trace first events board outcomes is_trace at ends =
+    let out = played_out trace first (fit_of_trace trace first is_trace) in
+    ap (map (λ (ended : Ended). ended.txn)) (ends ∙ ended_turns board.seats ∙ ap (λ (g : Game). filter_map ended_in g.turns) at.game_is)
+    ∙ numbers_ended (game_of trace first).turns out.over ∙ out.numbers_are
+
+-- and there are few events
+pub few_told : (trace : TraceView) (first places : ℕ) (events : List Event) (board : BoardView) → IsTrace trace → IsClosing trace first events board → places ≡ length events → places ≤ most_events trace
+few_told trace first places events board is_trace at same =
+    let few = few_events trace first (fit_of_trace trace first is_trace) in
+    omega (arith, few, same, ap (λ (g : Game). length g.events) at.game_is)

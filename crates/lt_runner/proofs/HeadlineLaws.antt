@@ -51,7 +51,7 @@ keeps_due setting txns lines keeps = record {
   due = λ left game is. is.due;
 }
 
--- All of them have ended behind the last round.
+-- All transactions are played to their ends.
 pub played_out : (trace : TraceView) (first : ℕ) → AllByRecursion (IsFit (setting_of trace 1 first) (txns_of trace.lines)) trace.lines →
     PlaysOut (setting_of trace 1 first) (txns_of trace.lines) (game_of trace first)
 played_out trace first fit =

@@ -65,3 +65,4 @@ pub mod LockMoveLaws
 pub mod AskLaws
 pub mod AddedLaws
 pub mod WholeRunLaws
+pub mod TraceRoomLaws
