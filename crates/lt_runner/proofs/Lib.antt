@@ -1,4 +1,3 @@
-pub mod FreeLaws
 pub mod ChoiceLaws
 pub mod TurnsLaws
 pub mod SteadyLaws
@@ -6,10 +5,6 @@ pub mod MoveLaws
 pub mod IdleLaws
 pub mod StepLaws
 pub mod PlaceLaws
-pub mod QuietLaws
-pub mod LineLaws
-pub mod ScheduleLaws
-pub mod OpeningLaws
 pub mod TraceLaws
 pub mod ClosingLaws
 pub mod PlayLaws

@@ -28,10 +28,13 @@ use Rattle.lt_runner.specs.Turn.{granted_to, ending, answered_by, walked, locked
 use Rattle.lt_runner.specs.Attempt.{bar_of}
 use Rattle.lt_runner.specs.Plays.{is_held, next_wish}
 use Rattle.lt_runner.specs.Serial.{Game, is_waiting, wishes_in, with_turn, ask_move, joins_of, behind_joins, attempt, line_move}
-use Rattle.lt_runner.specs.AtOnce.{owed_in}
 use Rattle.lt_runner.proofs.ChoiceLaws.{on_false}
 
 -- What a turn may still cost.
+
+-- the frees of what it was granted in a tree, at most
+abbrev pub owed_in : Recorded → ℕ
+owed_in r = length r.ranges + (if r.buffered then 1 else 0)
 
 abbrev pub may_free : List Recorded → ℕ
 may_free [] = 0

@@ -1,5 +1,5 @@
 -- Laws of lists of turns.
-use Rattle.std.proofs.Common.{◌≡◌, ℕ, zero, suc, ◌<◌, List, [], ◌∷◌, Bool, true, false, ◌==◌, if◌then◌else◌, length, get_or, slice_set, nat_cmp, refl, sym, ◌∙◌, arith, eq-eqb}
+use Rattle.std.proofs.Common.{◌≡◌, ℕ, zero, suc, ◌<◌, List, [], ◌∷◌, Bool, true, false, ◌==◌, if◌then◌else◌, map, length, get_or, slice_set, nat_cmp, refl, sym, ◌∙◌, arith, eq-eqb}
 use Rattle.std.specs.List.Sorted.{IsStrictlySortedBy}
 use Rattle.std.proofs.lemmas.Bool.Decides.{nat_tests}
 use Rattle.std.proofs.lemmas.List.{get_or-map, length-map}
@@ -7,8 +7,10 @@ use Rattle.std.proofs.lemmas.Map.Keys.{sorted_tail, below_from_sorted}
 use Rattle.lt_seq.specs.Table.{Setting}
 use Rattle.lt_runner.specs.TurnView.{Turn}
 use Rattle.lt_runner.specs.Serial.{turn_of, with_turn}
-use Rattle.lt_runner.specs.AtOnce.{numbers_of}
 pub use Rattle.lt_runner.proofs.ChoiceLaws.{on_true, on_false}
+
+abbrev numbers_of : List Turn → List ℕ
+numbers_of turns = map (λ turn. turn.txn) turns
 
 differs : (a b : ℕ) → a < b → (a == b) ≡ false
 differs a b lt = grind (arith, nat_tests)

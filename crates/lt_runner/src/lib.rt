@@ -1,15 +1,12 @@
 //! Plays traces.
 #![tactic(auto)]
 
-mod at_once;
 mod alone;
 mod answers;
 mod attempt;
 mod board;
-mod calls;
 pub mod laws;
 mod lines;
-mod play;
 mod recorded;
 mod release;
 mod run;
@@ -18,7 +15,6 @@ mod steps;
 mod sweeps;
 mod transcript;
 mod turn;
-mod turns;
 
 pub use release::Release;
 pub use serial::run_serial;
