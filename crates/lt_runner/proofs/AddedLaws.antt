@@ -1,24 +1,22 @@
 -- A line that is added to a board.
-use Rattle.std.proofs.Common.{◌≡◌, ◌≢◌, ℕ, zero, suc, ◌+◌, ◌<◌, ◌≤◌, List, [], ◌∷◌, ◌++◌, map, Bool, true, false, ◌&&◌, not, if◌then◌else◌, Option, Some, None, is_some, is_none, length, get_or, slice_set, nat_cmp, refl, sym, ap, subst, ◌∙◌, arith}
+use Rattle.std.proofs.Common.{◌≡◌, ◌≢◌, ℕ, List, [], ◌∷◌, ◌++◌, Bool, true, false, ◌&&◌, not, if◌then◌else◌, Option, Some, None, is_some, is_none, get_or, nat_cmp, refl, sym, ap, subst, ◌∙◌}
 use Rattle.std.specs.Prelude.{option_map}
-use Rattle.std.specs.List.{AllByRecursion, fold, find}
+use Rattle.std.specs.List.{find}
 use Rattle.std.specs.List.Sorted.{IsStrictlySortedBy}
 use Rattle.lt_ranges.specs.Numbers.{is_in}
 use Rattle.lt_seq.specs.declared.event.Event.{Event}
 use Rattle.lt_seq.specs.Table.{Setting}
 use Rattle.lt_trace.specs.declared.line.Line.{Line}
-use Rattle.lt_trace.specs.declared.line.LineDeed.TheVariants.{End}
-use Rattle.lt_requests.specs.declared.wish.Wish.{Wish}
 use Rattle.lt_history.specs.declared.outcome.Outcome.{Outcome}
 use Rattle.lt_runner.specs.TurnView.{Turn, Seat}
 use Rattle.lt_runner.specs.Plays.{next_wish, end_of}
 use Rattle.lt_runner.specs.Played.{IsAtLock}
 use Rattle.lt_runner.specs.Seats.{idle, with_line}
-use Rattle.lt_runner.specs.Serial.{Game, game_at, turn_of, with_turn, is_waiting, is_ready, wishes_in, plays_next, swept, swept_if_released, settled, added, takes_line, ends_first, ends_one}
+use Rattle.lt_runner.specs.Serial.{Game, game_at, turn_of, with_turn, is_waiting, is_ready, plays_next, swept, added, takes_line, ends_first, ends_one}
 use Rattle.lt_runner.specs.Steps.{IsSteady, IsInOrder, IsFitLine, IsFit, takes}
 use Rattle.lt_runner.specs.Board.{BoardView, IsBoard, IsOn, IsCalm, GoesOn, IsLinePut, Shows, HasRoom, turns_of, game_on, numbers_on, turn_on}
 use Rattle.lt_runner.proofs.ChoiceLaws.{on_true, on_false}
-use Rattle.lt_runner.proofs.SteadyLaws.{turn_of_txn, turn_of_with, steady_taking}
+use Rattle.lt_runner.proofs.SteadyLaws.{turn_of_with, steady_taking}
 use Rattle.lt_runner.proofs.MoveLaws.{the_turn, in_order_with}
 use Rattle.lt_runner.proofs.StepLaws.{found_ready}
 use Rattle.lt_runner.proofs.WishLaws.{wish_of}
@@ -26,9 +24,9 @@ use Rattle.lt_runner.proofs.WaitLaws.{wishes_stay}
 use Rattle.lt_runner.proofs.BoardLaws.{turn_at}
 use Rattle.lt_runner.proofs.SeatLaws.{IsPut, board_put, shows_put}
 use Rattle.lt_runner.proofs.SeatMoveLaws.{calm_at}
-use Rattle.lt_runner.proofs.LockMoveLaws.{steady_on, txn_is, own_turn}
+use Rattle.lt_runner.proofs.LockMoveLaws.{steady_on, txn_is}
 use Rattle.lt_runner.proofs.RoomLaws.{room_rounds, order_next, order_swept}
-use Rattle.lt_runner.proofs.OnLaws.{shows_of, shows_then, own_board, is_on, room_own}
+use Rattle.lt_runner.proofs.OnLaws.{shows_of, shows_then, is_on, room_own}
 
 sorted_on : (setting : Setting) (txns : List ℕ) (events : List Event) (board : BoardView) → IsBoard setting txns events board → IsStrictlySortedBy nat_cmp (numbers_on board)
 sorted_on setting txns events board stands = subst (IsStrictlySortedBy nat_cmp) (sym stands.order.numbers) stands.order.sorted

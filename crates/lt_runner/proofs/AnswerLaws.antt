@@ -1,21 +1,19 @@
 -- What a yard's answer makes of a transaction.
-use Rattle.std.proofs.Common.{◌≡◌, ◌≢◌, ℕ, zero, suc, ◌+◌, ◌^◌, ◌<◌, ◌≤◌, List, [], ◌∷◌, ◌++◌, Bool, true, false, ◌==◌, ◌&&◌, ◌||◌, not, if◌then◌else◌, IsTrue, Option, Some, None, Result, Ok, Err, length, refl, sym, ap, subst, ◌∙◌, arith, append_assoc, append-nil, eq-eqb, length-append}
-use Rattle.std.specs.List.{AllByRecursion}
+use Rattle.std.proofs.Common.{◌≡◌, ◌≢◌, ℕ, ◌+◌, ◌<◌, ◌≤◌, List, [], ◌∷◌, ◌++◌, Bool, true, false, ◌==◌, ◌&&◌, ◌||◌, not, if◌then◌else◌, IsTrue, Some, length, refl, sym, ap, subst, ◌∙◌, arith, append_assoc, append-nil, eq-eqb, length-append}
 use Rattle.lt_ranges.specs.Interval.{Interval}
 use Rattle.lt_seq.specs.declared.event.Deed.{Deed}
-use Rattle.lt_seq.specs.declared.event.Deed.TheVariants.{Ask, Free, Who, Join}
+use Rattle.lt_seq.specs.declared.event.Deed.TheVariants.{Ask, Free, Join}
 use Rattle.lt_seq.specs.declared.event.Reply.{Reply}
-use Rattle.lt_seq.specs.declared.event.Reply.TheVariants.{Granted, Buffered, HeldBy}
+use Rattle.lt_seq.specs.declared.event.Reply.TheVariants.{Granted}
 use Rattle.lt_seq.specs.declared.event.Event.{Event}
 use Rattle.lt_seq.specs.declared.event.Receipt.{Receipt}
-use Rattle.lt_seq.specs.declared.fault.Fault.{Fault}
-use Rattle.lt_seq.specs.declared.fault.Fault.TheVariants.{OutOfMemory, Busy, HistoryFull, OutOfLocks}
+use Rattle.lt_seq.specs.declared.fault.Fault.TheVariants.{OutOfLocks}
 use Rattle.lt_seq.specs.Table.{Setting, used}
 use Rattle.lt_seq.specs.History.{after, IsFront}
 use Rattle.lt_seq.specs.Questions.{question, events_of, named_by}
 use Rattle.lt_requests.specs.declared.wish.Wish.{Wish}
 use Rattle.lt_requests.specs.Search.{IsSearch, wishes_of}
-use Rattle.lt_seq.specs.Yard.{AskAnswers, HasAll, PassView, Goes, IsSound, Happens, FaultAt, Watches, AreJoined, AreNoneOrAll, IsAsked, AskCaused, IsOutOfLocks, place_after}
+use Rattle.lt_seq.specs.Yard.{PassView, IsSound, Happens, FaultAt, AreJoined, IsAsked, AskCaused, place_after}
 use Rattle.lt_seq.proofs.HistoryLaws.{front_on, front_itself, front_more}
 use Rattle.lt_trace.specs.Grammar.{is_last}
 use Rattle.lt_trace.specs.declared.line.Line.{Line}
@@ -23,11 +21,11 @@ use Rattle.lt_trace.specs.declared.line.LineDeed.{LineDeed}
 use Rattle.lt_trace.specs.declared.line.LineDeed.TheVariants.{Try, Lock, End, Abort, Escalate, Big}
 use Rattle.lt_runner.specs.declared.release.Release.{Release}
 use Rattle.lt_runner.specs.TurnView.{Turn, Seat}
-use Rattle.lt_runner.specs.Turn.{Move, leaves, asks, waits, stops, escalates, grows, ends, frees, receipts_in, turn_after, reply_in}
-use Rattle.lt_runner.specs.Attempt.{behind, bar_of, used_at, HasRoom, IsFull, AreOfTrees, AreJoins, IsAttempt, IsStop, IsLeft}
-use Rattle.lt_runner.specs.Plays.{Past, Stage, stage_after, is_ask, is_lock, is_held, is_big, line_question, NeedsNoSearch, AreWishes, MayDo, IsMove, MayFree}
+use Rattle.lt_runner.specs.Turn.{leaves, asks, waits, stops, escalates, grows, ends, frees, turn_after, reply_in}
+use Rattle.lt_runner.specs.Attempt.{behind, bar_of, used_at, HasRoom, AreJoins, IsAttempt, IsStop}
+use Rattle.lt_runner.specs.Plays.{Past, is_ask, is_lock, is_held, is_big, line_question, NeedsNoSearch, AreWishes, MayDo, IsMove, MayFree}
 use Rattle.lt_runner.specs.Seats.{idle}
-use Rattle.lt_runner.specs.Played.{AreInside, IsInside, IsPastAt, IsFirstFrom, MovesBy}
+use Rattle.lt_runner.specs.Played.{AreInside, IsFirstFrom, MovesBy}
 use Rattle.lt_runner.specs.Calls.{Joining}
 use Rattle.lt_runner.specs.PlaysOn.{IsNextAsk}
 use Rattle.lt_runner.proofs.PlayLaws.{used_at_front, list_inside, joins_stay, attempt_stays}

@@ -1,5 +1,5 @@
 -- What a start and a retry ask of the board.
-use Rattle.std.proofs.Common.{◌≡◌, ℕ, zero, suc, ◌+◌, ◌<◌, ◌≤◌, List, [], ◌∷◌, map, Bool, true, false, ◌==◌, ◌&&◌, ◌||◌, nat_lt, if◌then◌else◌, Option, Some, None, length, get_or, nat_cmp, Result, refl, sym, ap, subst, ◌∙◌, arith}
+use Rattle.std.proofs.Common.{◌≡◌, ℕ, suc, ◌+◌, ◌<◌, ◌≤◌, List, [], ◌∷◌, map, Bool, true, false, ◌==◌, ◌&&◌, ◌||◌, nat_lt, if◌then◌else◌, Option, Some, None, length, nat_cmp, Result, refl, sym, ap, subst, ◌∙◌, arith}
 use Rattle.std.specs.List.{AllByRecursion, cons_option, list_all}
 use Rattle.std.specs.List.Sorted.{IsStrictlySortedBy}
 use Rattle.std.proofs.lemmas.Bool.Decides.{nat_tests}
@@ -11,25 +11,24 @@ use Rattle.lt_seq.specs.Table.{Setting}
 use Rattle.lt_seq.specs.Yard.{Origin, PassView, place_after, places_end}
 use Rattle.lt_seq.proofs.NumbersLaws.{AllAbove, Rises, increasing_from}
 use Rattle.lt_trace.specs.declared.line.Line.{Line}
-use Rattle.lt_trace.specs.declared.line.LineDeed.TheVariants.{Lock}
 use Rattle.lt_requests.specs.declared.wish.Wish.{Wish}
 use Rattle.lt_requests.specs.declared.started.Started.{Started}
-use Rattle.lt_requests.specs.Registered.{Ascend, MayAsk, may_ask, is_registered, wish_of as registered_wish, with_wish, txns_of}
+use Rattle.lt_requests.specs.Registered.{Ascend, MayAsk, may_ask, is_registered, wish_of as registered_wish, txns_of}
 use Rattle.lt_requests.specs.Started.{IsStarted}
-use Rattle.lt_runner.specs.TurnView.{Turn, Seat}
+use Rattle.lt_runner.specs.TurnView.{Turn}
 use Rattle.lt_runner.specs.Attempt.{bar_of}
 use Rattle.lt_runner.specs.Plays.{next_wish}
-use Rattle.lt_runner.specs.Serial.{turn_of, with_turn, wishes_in}
+use Rattle.lt_runner.specs.Serial.{with_turn, wishes_in}
 use Rattle.lt_runner.specs.Steps.{IsSteady, IsFitLine}
-use Rattle.lt_runner.specs.StartsAlone.{IsAtLock, MayStartAtOnce, IsStartedAtOnce}
-use Rattle.lt_runner.specs.Board.{BoardView, IsBoard, IsAnswer, HasTable, HasRoom, turns_of, game_on, numbers_on, turn_on, moved}
+use Rattle.lt_runner.specs.StartsAlone.{IsStartedAtOnce}
+use Rattle.lt_runner.specs.Board.{BoardView, IsBoard, HasTable, HasRoom, turns_of, game_on, turn_on, moved}
 use Rattle.lt_runner.proofs.ChoiceLaws.{on_true, on_false}
 use Rattle.lt_runner.proofs.SteadyLaws.{numbers_with}
 use Rattle.lt_runner.proofs.WishLaws.{wish_of, wish_of_number, wish_there}
 use Rattle.lt_runner.proofs.WaitLaws.{AllOver, over_less}
-use Rattle.lt_runner.proofs.SeatMoveLaws.{has_number, room_here}
+use Rattle.lt_runner.proofs.SeatMoveLaws.{room_here}
 use Rattle.lt_runner.proofs.StartedLaws.{started_at_once}
-use Rattle.lt_runner.proofs.LockMoveLaws.{IsLocking, HasLock, has_lock, lock_fits, txn_is}
+use Rattle.lt_runner.proofs.LockMoveLaws.{IsLocking, has_lock, lock_fits, txn_is}
 
 -- Who is registered.
 

@@ -1,41 +1,38 @@
 -- What the answer at a lock line makes of the board.
-use Rattle.std.proofs.Common.{◌≡◌, ◌≢◌, ℕ, zero, suc, ◌+◌, ◌<◌, ◌≤◌, List, [], ◌∷◌, ◌++◌, map, Bool, true, false, ◌==◌, ◌&&◌, ◌||◌, not, nat_lt, if◌then◌else◌, Option, Some, None, is_some, length, get_or, slice_set, nat_cmp, Result, Ok, Err, refl, sym, ap, subst, ◌∙◌, arith, eq-eqb}
-use Rattle.std.specs.List.{AllByRecursion, cons_option, list_all}
+use Rattle.std.proofs.Common.{◌≡◌, ℕ, ◌<◌, ◌≤◌, List, [], ◌∷◌, ◌++◌, map, Bool, true, false, ◌==◌, ◌||◌, if◌then◌else◌, Some, None, is_some, length, get_or, nat_cmp, Result, Ok, Err, refl, sym, ap, subst, ◌∙◌, arith}
+use Rattle.std.specs.List.{AllByRecursion}
 use Rattle.std.specs.List.Sorted.{IsStrictlySortedBy}
-use Rattle.std.proofs.lemmas.Bool.Decides.{nat_tests}
 use Rattle.lt_ranges.specs.Numbers.{is_in}
 use Rattle.lt_seq.specs.declared.event.Event.{Event}
 use Rattle.lt_seq.specs.declared.fault.Fault.{Fault}
 use Rattle.lt_seq.specs.declared.fault.Fault.TheVariants.{OutOfMemory, Busy, HistoryFull, OutOfLocks}
 use Rattle.lt_seq.specs.Table.{Setting}
 use Rattle.lt_seq.specs.Questions.{events_of}
-use Rattle.lt_seq.specs.Yard.{PassView, place_after, places_end}
-use Rattle.lt_seq.proofs.NumbersLaws.{AllAbove, Rises, increasing_from}
+use Rattle.lt_seq.specs.Yard.{PassView}
 use Rattle.lt_trace.specs.declared.line.Line.{Line}
 use Rattle.lt_trace.specs.declared.line.LineDeed.{LineDeed}
 use Rattle.lt_trace.specs.declared.line.LineDeed.TheVariants.{Try, Lock, End, Abort, Escalate, Big}
 use Rattle.lt_requests.specs.declared.wish.Wish.{Wish}
 use Rattle.lt_requests.specs.declared.started.Started.{Started}
 use Rattle.lt_requests.specs.declared.started.Started.TheVariants.{Granted as StartedGranted, Waits, Deadlock}
-use Rattle.lt_requests.specs.Registered.{Ascend, MayAsk, may_ask, is_registered, wish_of as registered_wish, without, with_wish, txns_of}
-use Rattle.lt_requests.specs.Started.{IsStarted, HasAnswer, deed_for}
+use Rattle.lt_requests.specs.Registered.{without, with_wish}
+use Rattle.lt_requests.specs.Started.{IsStarted, HasAnswer}
 use Rattle.lt_history.specs.declared.outcome.Outcome.TheVariants.{Deadlock as EndedByDeadlock, OutOfLocks as StoppedAt}
 use Rattle.lt_runner.specs.TurnView.{Turn, Seat}
-use Rattle.lt_runner.specs.Turn.{Move, receipts_in, turn_after, ending, granted_to}
-use Rattle.lt_runner.specs.Plays.{next_wish, wish_for, is_lock, wish_in}
+use Rattle.lt_runner.specs.Turn.{Move, receipts_in, ending}
+use Rattle.lt_runner.specs.Plays.{next_wish, wish_for}
 use Rattle.lt_runner.specs.Seats.{idle, granted_at}
-use Rattle.lt_runner.specs.Serial.{Game, game_at, turn_of, with_turn, is_ready, is_waiting, wishes_in, attempt, line_move, does}
-use Rattle.lt_runner.specs.Steps.{IsSteady, IsInOrder, IsFitDeed, IsFitLine}
-use Rattle.lt_runner.specs.StartsAlone.{IsAtLock, IsLockMove, IsStartedAtOnce}
-use Rattle.lt_runner.specs.Board.{BoardView, IsBoard, IsCalm, GoesOn, Shows, HasRoom, IsAnswer, IsAnswered, IsTaken, seat_so, registry_so, turns_of, game_on, numbers_on, turn_on, moved, moved_at}
+use Rattle.lt_runner.specs.Serial.{Game, game_at, turn_of, with_turn, wishes_in, line_move, does}
+use Rattle.lt_runner.specs.Steps.{IsSteady, IsFitDeed, IsFitLine}
+use Rattle.lt_runner.specs.StartsAlone.{IsLockMove, IsStartedAtOnce}
+use Rattle.lt_runner.specs.Board.{BoardView, IsBoard, IsCalm, Shows, IsAnswer, IsAnswered, IsTaken, seat_so, registry_so, turns_of, game_on, numbers_on, turn_on, moved, moved_at}
 use Rattle.lt_runner.proofs.ChoiceLaws.{on_true, on_false}
-use Rattle.lt_runner.proofs.SteadyLaws.{turn_of_txn, turn_has, numbers_with, steady_after, after_txn}
+use Rattle.lt_runner.proofs.SteadyLaws.{turn_of_txn, turn_has, steady_after, after_txn}
 use Rattle.lt_runner.proofs.MoveLaws.{the_turn}
-use Rattle.lt_runner.proofs.WishLaws.{wish_of, wish_of_number, wish_there}
-use Rattle.lt_runner.proofs.WaitLaws.{AllOver, over_less, wishes_stay, wishes_leave, wishes_come}
+use Rattle.lt_runner.proofs.WishLaws.{wish_of}
+use Rattle.lt_runner.proofs.WaitLaws.{wishes_stay, wishes_leave, wishes_come}
 use Rattle.lt_runner.proofs.SeatLaws.{IsPut, board_put, shows_put}
 use Rattle.lt_runner.proofs.OnLaws.{shows_then}
-use Rattle.lt_runner.proofs.SeatMoveLaws.{has_number}
 
 -- The turn is one that has not ended, and its next line is a lock line with this wish.
 pub record IsLocking (setting : Setting) (txns : List ℕ) (txn : ℕ) (events : List Event) (board : BoardView) (wish : Wish) (line : Line) (lines : List Line) : Type 0 where

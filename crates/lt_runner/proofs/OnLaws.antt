@@ -1,22 +1,21 @@
 -- A board that is played on.
-use Rattle.std.proofs.Common.{◌≡◌, ◌≢◌, ℕ, ◌+◌, ◌<◌, ◌≤◌, List, [], ◌∷◌, ◌++◌, map, drop, get_or, Bool, true, false, ◌&&◌, not, if◌then◌else◌, Option, Some, None, is_some, is_none, length, nat_cmp, refl, sym, ap, subst, ◌∙◌, arith, drop-cons, add-one}
+use Rattle.std.proofs.Common.{◌≡◌, ◌≢◌, ℕ, ◌+◌, ◌<◌, List, [], ◌∷◌, drop, Bool, true, false, if◌then◌else◌, is_some, length, nat_cmp, refl, sym, ap, subst, ◌∙◌, arith}
 use Rattle.std.proofs.lemmas.List.{at_drop_more}
 use Rattle.lt_runner.specs.Plays.{end_of}
-use Rattle.std.specs.List.{AllByRecursion, fold}
+use Rattle.std.specs.List.{fold}
 use Rattle.std.specs.List.Sorted.{IsStrictlySortedBy}
 use Rattle.lt_ranges.specs.Numbers.{is_in}
 use Rattle.lt_seq.specs.declared.event.Event.{Event}
 use Rattle.lt_seq.specs.Table.{Setting}
 use Rattle.lt_trace.specs.declared.line.Line.{Line}
-use Rattle.lt_runner.specs.TurnView.{Turn, Seat}
-use Rattle.lt_runner.specs.Serial.{Game, turn_of, is_ready, is_waiting, settles, plays_line, plays_next, plays_on, retried, swept, swept_if_released, settled}
+use Rattle.lt_runner.specs.Serial.{Game, turn_of, is_ready, settles, plays_line, plays_next, plays_on, swept, swept_if_released}
 use Rattle.lt_runner.specs.Steps.{IsInOrder}
-use Rattle.lt_runner.specs.Board.{BoardView, IsBoard, IsOn, GoesOn, Shows, HasRoom, turns_of, game_on, numbers_on, turn_on, moved, moved_at, above}
+use Rattle.lt_runner.specs.Board.{BoardView, IsBoard, IsOn, GoesOn, Shows, HasRoom, game_on, numbers_on, turn_on, moved, moved_at}
 use Rattle.lt_runner.proofs.ChoiceLaws.{on_true, on_false}
-use Rattle.lt_runner.proofs.SteadyLaws.{ready_goes, waits_goes}
+use Rattle.lt_runner.proofs.SteadyLaws.{ready_goes}
 use Rattle.lt_runner.proofs.MoveLaws.{AnyOne, the_turn, holds_plays}
 use Rattle.lt_runner.proofs.IdleLaws.{keeps_nothing}
-use Rattle.lt_runner.proofs.RoomLaws.{room_settles, room_on, room_round, room_rounds, order_settles, order_next, order_swept}
+use Rattle.lt_runner.proofs.RoomLaws.{room_settles, room_on, room_rounds, order_next, order_swept}
 
 -- A board of these transactions is one of its own.
 

@@ -1,5 +1,5 @@
 -- What a play by a pass that has all the rights is of the plain scheduler.
-use Rattle.std.proofs.Common.{◌≡◌, ℕ, ◌+◌, ◌<◌, ◌≤◌, List, [], ◌∷◌, ◌++◌, Bool, true, false, Some, None, Result, Ok, Err, length, refl, sym, ap, subst, ◌∙◌, arith, append_assoc, append-nil, length-append}
+use Rattle.std.proofs.Common.{◌≡◌, ℕ, ◌≤◌, List, [], ◌∷◌, ◌++◌, false, Some, None, Ok, Err, length, refl, sym, ap, subst, ◌∙◌, arith, append_assoc, append-nil, length-append}
 use Rattle.std.proofs.lemmas.List.{map-append}
 use Rattle.lt_ranges.specs.Interval.{Interval}
 use Rattle.lt_seq.specs.declared.event.Deed.{Deed}
@@ -12,24 +12,24 @@ use Rattle.lt_seq.specs.declared.fault.Fault.TheVariants.{OutOfMemory, Busy, His
 use Rattle.lt_seq.specs.Table.{Setting}
 use Rattle.lt_seq.specs.History.{IsFront}
 use Rattle.lt_seq.specs.Questions.{receipt_after, events_of}
-use Rattle.lt_seq.specs.Yard.{PassView, HasAll, Goes, IsSound, Answers, AskAnswers, AskCaused, Caused, FaultAt, IsBusy, IsFull, Rose, Happens, place_after, places_end}
+use Rattle.lt_seq.specs.Yard.{PassView, HasAll, Goes, IsSound, Answers, AskAnswers, AskCaused, Caused, FaultAt, Rose}
 use Rattle.lt_seq.specs.Alone.{IsDone, IsDoneOrOutOfLocks}
-use Rattle.lt_seq.proofs.YardLaws.{goes_then, alone_answers, alone_done, alone_ask_answers, alone_ask_done}
+use Rattle.lt_seq.proofs.YardLaws.{alone_answers, alone_done, alone_ask_answers, alone_ask_done}
 use Rattle.lt_trace.specs.declared.line.Line.{Line}
 use Rattle.lt_trace.specs.declared.line.LineDeed.{LineDeed}
 use Rattle.lt_trace.specs.declared.line.LineDeed.TheVariants.{Try, Lock, End, Abort, Escalate, Big}
 use Rattle.lt_runner.specs.declared.release.Release.{Release}
 use Rattle.lt_history.specs.declared.outcome.Outcome.TheVariants.{OutOfLocks as StoppedAt}
 use Rattle.lt_runner.specs.TurnView.{Turn, Seat}
-use Rattle.lt_runner.specs.Turn.{Move, asks, stops, escalates, frees, receipts_in, turn_after, reply_in, asked_at, ending, past, rest_of_release}
+use Rattle.lt_runner.specs.Turn.{Move, asks, stops, escalates, receipts_in, turn_after, reply_in, asked_at, ending, past, rest_of_release}
 use Rattle.lt_runner.specs.Attempt.{bar_of}
 use Rattle.lt_runner.specs.Plays.{line_question}
-use Rattle.lt_runner.specs.Serial.{attempt, ask_move}
+use Rattle.lt_runner.specs.Serial.{attempt}
 use Rattle.lt_runner.specs.Seats.{idle}
 use Rattle.lt_runner.specs.PlaysOn.{IsNextAsk}
-use Rattle.lt_runner.specs.PlaysAlone.{HasCause, IsCaused, play_move, with_frees, IsMoveMade, IsReleased, IsPlayedAtOnce, IsAnsweredAtOnce, IsFreedAtOnce, MayPlayAtOnce}
+use Rattle.lt_runner.specs.PlaysAlone.{HasCause, IsCaused, play_move, with_frees, IsMoveMade, IsPlayedAtOnce, IsAnsweredAtOnce, IsFreedAtOnce, MayPlayAtOnce}
 use Rattle.lt_runner.proofs.AnswerLaws.{joined_is}
-use Rattle.lt_runner.proofs.AloneLaws.{receipt_is, IsAttemptOf, attempt_asked, IsStopOf, attempt_stopped}
+use Rattle.lt_runner.proofs.AloneLaws.{receipt_is, attempt_asked, attempt_stopped}
 
 -- Causes.
 

@@ -1,5 +1,5 @@
 -- A pass plays a transaction on.
-use Rattle.std.proofs.Common.{◌≡◌, ◌≢◌, ℕ, ◌+◌, ◌≤◌, ◌<◌, List, [], ◌∷◌, ◌++◌, Bool, true, false, if◌then◌else◌, Option, Some, None, Result, Ok, Err, IsTrue, is_some, length, refl, sym, ap, subst, ◌∙◌, arith, append_assoc, append-nil, length-append}
+use Rattle.std.proofs.Common.{◌≡◌, ◌≢◌, ℕ, ◌+◌, ◌≤◌, ◌<◌, List, [], ◌∷◌, ◌++◌, Bool, true, false, if◌then◌else◌, None, Result, Ok, Err, IsTrue, length, refl, sym, ap, subst, ◌∙◌, arith, append_assoc, append-nil, length-append}
 use Rattle.std.specs.List.{AllByRecursion}
 use Rattle.std.proofs.lemmas.List.{map-append}
 use Rattle.lt_ranges.specs.Interval.{Interval, whole}
@@ -13,23 +13,22 @@ use Rattle.lt_seq.specs.declared.fault.Fault.TheVariants.{OutOfMemory, Busy, His
 use Rattle.lt_seq.specs.Table.{Setting}
 use Rattle.lt_seq.specs.History.{IsFront}
 use Rattle.lt_seq.specs.Questions.{events_of}
-use Rattle.lt_seq.specs.Yard.{PassView, HasAll, place_after, Goes, IsSound, Answers, AskAnswers, AreJoined, IsAsked, FaultAt, AskCaused, Happens, Watches, bar_for}
+use Rattle.lt_seq.specs.Yard.{PassView, HasAll, place_after, Goes, IsSound, Answers, AskAnswers, AreJoined, FaultAt, AskCaused, bar_for}
 use Rattle.lt_seq.specs.Alone.{IsDoneOrOutOfLocks}
 use Rattle.lt_seq.proofs.YardLaws.{goes_then, alone_ask_answers, alone_ask_done}
 use Rattle.lt_trace.specs.declared.line.Line.{Line}
-use Rattle.lt_trace.specs.declared.line.LineDeed.{LineDeed}
 use Rattle.lt_trace.specs.declared.line.LineDeed.TheVariants.{Escalate}
 use Rattle.lt_runner.specs.declared.release.Release.{Release}
 use Rattle.lt_runner.specs.declared.turn.Moved.{Moved}
 use Rattle.lt_history.specs.declared.outcome.Outcome.{Outcome}
 use Rattle.lt_runner.specs.TurnView.{Turn, Recorded, Seat}
-use Rattle.lt_runner.specs.Turn.{Move, leaves, asks, waits, stops, escalates, grows, ends, frees, turn_after, reply_in, asked_at, ended_at, ending, past, rest_of_release, releases_by, releases_in, releases_from}
+use Rattle.lt_runner.specs.Turn.{Move, leaves, asks, stops, escalates, grows, ends, frees, turn_after, reply_in, asked_at, ended_at, ending, past, rest_of_release, releases_by, releases_in, releases_from}
 use Rattle.lt_runner.specs.Attempt.{bar_of}
 use Rattle.lt_runner.specs.Plays.{Stage, is_big}
 use Rattle.lt_trace.specs.Grammar.{is_last}
 use Rattle.lt_history.specs.declared.outcome.Outcome.TheVariants.{OutOfLocks as StoppedAt}
 use Rattle.lt_runner.specs.Seats.{idle}
-use Rattle.lt_runner.specs.Played.{Search, Fits, IsAmong, IsAtLine, HasCome, IsPastAt, MovesBy}
+use Rattle.lt_runner.specs.Played.{Search, Fits, IsAmong, IsAtLine, HasCome, MovesBy}
 use Rattle.lt_runner.specs.PlaysOn.{PlaysOn, IsNext, IsNextAsk, IsReady, IsFit, UnlessShort}
 use Rattle.lt_runner.proofs.SearchLaws.{all_txn}
 use Rattle.lt_runner.proofs.ComeLaws.{come_more, come_on}

@@ -1,19 +1,14 @@
 -- Room for a run is room for each part of it: no step takes events back.
-use Rattle.std.proofs.Common.{◌≡◌, ℕ, ◌+◌, ◌≤◌, List, [], ◌∷◌, ◌++◌, Bool, true, false, if◌then◌else◌, is_some, length, refl, sym, ap, subst, ◌∙◌, arith, length-append}
+use Rattle.std.proofs.Common.{◌≡◌, ℕ, ◌≤◌, List, [], ◌∷◌, ◌++◌, true, false, is_some, length, arith, length-append}
 use Rattle.std.specs.List.{fold}
 use Rattle.lt_ranges.specs.Numbers.{is_in}
 use Rattle.lt_seq.specs.declared.event.Event.{Event}
 use Rattle.lt_seq.specs.Table.{Setting}
-use Rattle.lt_seq.specs.Questions.{events_of}
 use Rattle.lt_trace.specs.declared.line.Line.{Line}
-use Rattle.lt_runner.specs.Turn.{Move, receipts_in}
-use Rattle.lt_runner.specs.TurnView.{Turn}
-use Rattle.lt_runner.specs.Serial.{Game, turn_of, is_ready, does, settles, plays_next, plays_on, retried, swept, swept_if_released, settled}
-use Rattle.lt_runner.specs.Steps.{IsInOrder, KeepsMoves, KeepsSteps}
-use Rattle.lt_runner.specs.Board.{HasRoom, moved, moved_at}
-use Rattle.lt_runner.proofs.ChoiceLaws.{on_true, on_false}
-use Rattle.lt_runner.proofs.MoveLaws.{Holds, AnyOne, AreOf, are_of, keeps_of, holds_settles, holds_next, holds_on, holds_retried, holds_round, holds_swept, holds_swept_if, holds_settled}
-use Rattle.lt_runner.proofs.StepLaws.{steps_alone}
+use Rattle.lt_runner.specs.Serial.{Game, turn_of, settles, plays_next, plays_on, retried, swept, swept_if_released}
+use Rattle.lt_runner.specs.Steps.{IsInOrder, KeepsMoves}
+use Rattle.lt_runner.specs.Board.{HasRoom}
+use Rattle.lt_runner.proofs.MoveLaws.{Holds, AnyOne, AreOf, keeps_of, holds_settles, holds_next, holds_on, holds_retried, holds_round, holds_swept, holds_swept_if}
 
 -- at least so many events
 abbrev pub Reaches : ℕ → Game → Type 0

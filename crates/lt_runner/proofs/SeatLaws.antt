@@ -1,18 +1,15 @@
 -- One seat of a board that is put in its place.
-use Rattle.std.proofs.Common.{◌≡◌, ◌≢◌, ℕ, zero, suc, ◌+◌, ◌<◌, ◌≤◌, List, [], ◌∷◌, ◌++◌, map, Bool, true, false, ◌==◌, if◌then◌else◌, Option, Some, None, is_some, length, get_or, slice_set, nat_cmp, refl, sym, ap, subst, ◌∙◌, arith}
-use Rattle.std.specs.List.{AllByRecursion, cons_option}
+use Rattle.std.proofs.Common.{◌≡◌, ℕ, zero, suc, ◌<◌, List, [], ◌∷◌, map, Bool, length, get_or, slice_set, nat_cmp, refl, sym, ap, subst, ◌∙◌, arith}
+use Rattle.std.specs.List.{AllByRecursion}
 use Rattle.std.specs.List.Sorted.{IsStrictlySortedBy}
-use Rattle.std.proofs.Math.Seq.{map-set_same}
-use Rattle.std.proofs.lemmas.List.{get_or-map, length-map, length-set}
+use Rattle.std.proofs.lemmas.List.{get_or-map, length-map}
 use Rattle.lt_seq.specs.declared.event.Event.{Event}
 use Rattle.lt_seq.specs.Table.{Setting}
 use Rattle.lt_requests.specs.declared.wish.Wish.{Wish}
 use Rattle.lt_runner.specs.TurnView.{Turn, Seat}
-use Rattle.lt_runner.specs.Plays.{next_wish}
-use Rattle.lt_runner.specs.Serial.{Game, turn_of, with_turn, is_waiting, wishes_in}
+use Rattle.lt_runner.specs.Serial.{Game, with_turn, wishes_in}
 use Rattle.lt_runner.specs.Steps.{IsSteady, IsInOrder}
-use Rattle.lt_runner.specs.Board.{BoardView, IsBoard, IsCalm, Shows, turns_of, game_on, numbers_on, turn_on}
-use Rattle.lt_runner.proofs.ChoiceLaws.{on_true, on_false}
+use Rattle.lt_runner.specs.Board.{BoardView, IsBoard, IsCalm, Shows, turns_of, game_on}
 use Rattle.lt_runner.proofs.TurnsLaws.{with_turn_at}
 use Rattle.lt_runner.proofs.MoveLaws.{in_order_with}
 
@@ -61,4 +58,3 @@ shows_put setting txns events new_events board place seat registry released stan
       };
       game_is = ap (λ (ts : List Turn). (let g : Game = record { events = new_events; turns = ts; released = released } in g)) turns;
     }
-

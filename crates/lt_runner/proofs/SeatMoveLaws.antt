@@ -1,9 +1,8 @@
 -- What a move of one seat makes of the board.
-use Rattle.std.proofs.Common.{◌≡◌, ◌≢◌, ℕ, zero, suc, ◌+◌, ◌<◌, ◌≤◌, List, [], ◌∷◌, ◌++◌, map, Bool, true, false, ◌==◌, ◌&&◌, nat_lt, if◌then◌else◌, Option, Some, None, is_some, is_none, not, ◌||◌, length, get_or, slice_set, nat_cmp, refl, sym, ap, subst, ◌∙◌, arith, eq-eqb, length-append}
+use Rattle.std.proofs.Common.{◌≡◌, ℕ, zero, suc, ◌+◌, ◌<◌, ◌≤◌, List, [], ◌∷◌, ◌++◌, map, Bool, true, false, ◌==◌, ◌&&◌, nat_lt, if◌then◌else◌, None, is_some, is_none, not, ◌||◌, length, get_or, nat_cmp, refl, sym, ap, subst, ◌∙◌, arith, length-append}
 use Rattle.std.specs.List.{AllByRecursion}
 use Rattle.std.specs.List.Sorted.{IsStrictlySortedBy}
 use Rattle.std.proofs.lemmas.Bool.Decides.{nat_tests}
-use Rattle.std.proofs.lemmas.List.{length-map}
 use Rattle.lt_ranges.specs.Interval.{Interval}
 use Rattle.lt_ranges.specs.Numbers.{is_in}
 use Rattle.lt_seq.specs.declared.event.Deed.{Deed}
@@ -20,17 +19,16 @@ use Rattle.lt_seq.specs.Passes.{numbers_from}
 use Rattle.lt_trace.specs.declared.line.Line.{Line}
 use Rattle.lt_trace.specs.declared.line.LineDeed.{LineDeed}
 use Rattle.lt_trace.specs.declared.line.LineDeed.TheVariants.{Try, Lock, End, Abort, Escalate, Big}
-use Rattle.lt_requests.specs.declared.wish.Wish.{Wish}
 use Rattle.lt_runner.specs.declared.release.Release.{Release}
 use Rattle.lt_runner.specs.TurnView.{Turn, Seat}
-use Rattle.lt_runner.specs.Turn.{Move, asks, stops, escalates, grows, ends, frees, receipts_in, turn_after, asked_at, ended_at, answered_by, reply_in, rest_of_release}
+use Rattle.lt_runner.specs.Turn.{Move, asks, stops, frees, receipts_in, turn_after, asked_at, ended_at, answered_by, rest_of_release}
 use Rattle.lt_runner.specs.Attempt.{bar_of}
 use Rattle.lt_runner.specs.Plays.{next_wish, wish_for}
 use Rattle.lt_runner.specs.Seats.{idle}
-use Rattle.lt_runner.specs.Serial.{Game, game_at, turn_of, with_turn, is_ready, wishes_in, joins_of, behind_joins, attempt, line_move, does, gives_back, settles}
-use Rattle.lt_runner.specs.Steps.{IsSteady, IsInOrder, IsFitDeed, IsFitLine, IsFitRelease}
+use Rattle.lt_runner.specs.Serial.{Game, game_at, turn_of, with_turn, is_ready, joins_of, behind_joins, attempt, line_move, does, gives_back, settles}
+use Rattle.lt_runner.specs.Steps.{IsSteady, IsFitDeed, IsFitLine, IsFitRelease}
 use Rattle.lt_runner.specs.PlaysOn.{IsFit, IsFitLine as IsPlayable}
-use Rattle.lt_runner.specs.PlaysAlone.{play_move, with_frees, IsMoveMade, IsReleased, IsPlayedAtOnce}
+use Rattle.lt_runner.specs.PlaysAlone.{play_move, with_frees, IsReleased, IsPlayedAtOnce}
 use Rattle.lt_runner.specs.Board.{BoardView, IsBoard, IsCalm, GoesOn, Shows, HasRoom, turns_of, game_on, numbers_on, turn_on, moved, moved_at}
 use Rattle.lt_runner.proofs.ChoiceLaws.{on_true, on_false}
 use Rattle.lt_runner.proofs.SteadyLaws.{turn_of_txn, turn_of_with, turn_has, numbers_with, steady_after, after_txn, ready_goes}

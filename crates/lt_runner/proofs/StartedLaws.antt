@@ -1,5 +1,5 @@
 -- What a start or a retry by a pass that has all the rights is of the plain scheduler.
-use Rattle.std.proofs.Common.{◌≡◌, ℕ, ◌+◌, ◌<◌, ◌≤◌, List, [], ◌∷◌, ◌++◌, Bool, true, false, Option, Some, None, Result, Ok, Err, if◌then◌else◌, length}
+use Rattle.std.proofs.Common.{◌≡◌, ℕ, ◌≤◌, List, [], ◌∷◌, ◌++◌, Bool, true, false, Option, Some, None, Result, Ok, Err, if◌then◌else◌, length}
 use Rattle.std.proofs.Common.{inl, inr, refl, sym, ap, subst, ◌∙◌, arith, append_assoc, append-nil}
 use Rattle.std.proofs.lemmas.List.{map-append}
 use Rattle.lt_seq.specs.declared.event.Deed.{Deed}
@@ -12,10 +12,9 @@ use Rattle.lt_seq.specs.declared.fault.Fault.{Fault}
 use Rattle.lt_seq.specs.declared.fault.Fault.TheVariants.{OutOfMemory, Busy, HistoryFull, OutOfLocks}
 use Rattle.lt_seq.specs.Table.{Setting}
 use Rattle.lt_seq.specs.Questions.{question, receipt_after, events_of, named_by, named_in}
-use Rattle.lt_seq.specs.Yard.{PassView, HasAll, Happens, Answers, AskAnswers, place_after, places_end, event_after}
+use Rattle.lt_seq.specs.Yard.{PassView, HasAll, Happens, AskAnswers, place_after, event_after}
 use Rattle.lt_trace.specs.declared.line.Line.{Line}
 use Rattle.lt_trace.specs.declared.line.LineDeed.{LineDeed}
-use Rattle.lt_trace.specs.declared.line.LineDeed.TheVariants.{Lock}
 use Rattle.lt_requests.specs.declared.wish.Wish.{Wish}
 use Rattle.lt_requests.specs.declared.cycle.Edge.{Edge}
 use Rattle.lt_requests.specs.declared.started.Started.{Started}
@@ -23,18 +22,18 @@ use Rattle.lt_requests.specs.declared.started.Started.TheVariants.{Granted as St
 use Rattle.lt_requests.specs.Search.{IsSearch, Reaches, searched, wishes_of, new_wishes, question_for, edges_in, edges_of, waiter_in}
 use Rattle.lt_requests.specs.Registered.{Ascend}
 use Rattle.lt_requests.specs.Walks.{cycle_of}
-use Rattle.lt_requests.specs.Started.{AreMade, HasSearched, HasFailed, IsGranted, IsHeld, IsSearched, IsCutAsk, HasFault, IsStarted, HasAnswer, deed_for, reply_of}
+use Rattle.lt_requests.specs.Started.{AreMade, HasFailed, IsGranted, IsSearched, HasFault, IsStarted, deed_for, reply_of}
 use Rattle.lt_requests.proofs.DoneLaws.{few_asked, start_answers}
-use Rattle.lt_history.specs.declared.outcome.Outcome.TheVariants.{Deadlock as EndedByDeadlock, OutOfLocks as StoppedAt}
+use Rattle.lt_history.specs.declared.outcome.Outcome.TheVariants.{OutOfLocks as StoppedAt}
 use Rattle.lt_runner.specs.TurnView.{Turn}
-use Rattle.lt_runner.specs.Turn.{Move, asks, waits, stops, receipts_in, turn_after, reply_in, asked_at, locked_by, walked, granted_to, ending}
+use Rattle.lt_runner.specs.Turn.{Move, asks, waits, stops, reply_in, asked_at, locked_by, walked, granted_to, ending}
 use Rattle.lt_runner.specs.Attempt.{bar_of}
-use Rattle.lt_runner.specs.Plays.{is_held, next_wish}
+use Rattle.lt_runner.specs.Plays.{is_held}
 use Rattle.lt_runner.specs.Seats.{granted_at}
-use Rattle.lt_runner.specs.Serial.{attempt, ask_move, wishes_in, with_turn}
+use Rattle.lt_runner.specs.Serial.{attempt, wishes_in, with_turn}
 use Rattle.lt_runner.specs.StartsAlone.{MayStartAtOnce, IsAtLock, IsLockMove, IsStartedAtOnce}
 use Rattle.lt_runner.proofs.ChoiceLaws.{on_true, on_false}
-use Rattle.lt_runner.proofs.AloneLaws.{IsAttemptOf, attempt_asked, IsStopOf, attempt_stopped}
+use Rattle.lt_runner.proofs.AloneLaws.{IsAttemptOf, attempt_asked, attempt_stopped}
 
 -- The search.
 

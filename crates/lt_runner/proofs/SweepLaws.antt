@@ -1,5 +1,5 @@
 -- A sweep asks for those that wait, one after another.
-use Rattle.std.proofs.Common.{◌≡◌, ℕ, ◌+◌, ◌<◌, ◌≤◌, List, [], ◌∷◌, map, Bool, true, false, ◌==◌, ◌||◌, nat_lt, if◌then◌else◌, Option, Some, None, length, nat_cmp, refl, sym, ap, subst, ◌∙◌, arith, eq-eqb}
+use Rattle.std.proofs.Common.{◌≡◌, ℕ, ◌<◌, ◌≤◌, List, [], ◌∷◌, map, Bool, true, false, ◌==◌, ◌||◌, nat_lt, if◌then◌else◌, Option, Some, None, length, nat_cmp, refl, sym, ap, subst, ◌∙◌, arith}
 use Rattle.std.specs.List.{AllByRecursion, cons_option, fold}
 use Rattle.std.specs.List.Sorted.{IsStrictlySortedBy}
 use Rattle.std.proofs.lemmas.Bool.Decides.{nat_tests}
@@ -12,7 +12,7 @@ use Rattle.lt_runner.specs.Plays.{next_wish}
 use Rattle.lt_runner.specs.Serial.{Game, turn_of, is_waiting, wishes_in, retried}
 use Rattle.lt_runner.specs.Board.{above}
 use Rattle.lt_runner.proofs.ChoiceLaws.{on_true, on_false}
-use Rattle.lt_runner.proofs.WishLaws.{wish_of, wish_of_number, IsPlaced, all_placed}
+use Rattle.lt_runner.proofs.WishLaws.{wish_of, wish_of_number, IsPlaced}
 use Rattle.lt_runner.proofs.WaitLaws.{AllOver, over_less, over_in, next_waits}
 
 abbrev numbers : List Turn → List ℕ

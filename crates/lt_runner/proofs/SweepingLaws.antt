@@ -1,5 +1,5 @@
 -- A board that is swept.
-use Rattle.std.proofs.Common.{◌≡◌, ◌≢◌, ℕ, zero, suc, ◌+◌, ◌<◌, ◌≤◌, nat_lt, List, [], ◌∷◌, ◌++◌, map, Bool, true, false, if◌then◌else◌, Option, Some, None, is_some, length, nat_cmp, refl, sym, ap, subst, ◌∙◌, arith}
+use Rattle.std.proofs.Common.{◌≡◌, ◌≢◌, ℕ, ◌<◌, ◌≤◌, nat_lt, List, [], ◌∷◌, Bool, true, false, if◌then◌else◌, Some, None, is_some, length, nat_cmp, refl, sym, ap, subst, ◌∙◌, arith}
 use Rattle.std.specs.List.{AllByRecursion, fold}
 use Rattle.std.specs.List.Sorted.{IsStrictlySortedBy}
 use Rattle.std.specs.declared.cmp.Ordering.TheVariants.{Less}
@@ -12,13 +12,13 @@ use Rattle.lt_trace.specs.declared.line.LineDeed.{LineDeed}
 use Rattle.lt_trace.specs.declared.line.LineDeed.TheVariants.{Try, Lock, End, Abort, Escalate, Big}
 use Rattle.lt_requests.specs.declared.wish.Wish.{Wish}
 use Rattle.lt_requests.specs.Registered.{next_above}
-use Rattle.lt_runner.specs.TurnView.{Turn, Seat}
+use Rattle.lt_runner.specs.TurnView.{Turn}
 use Rattle.lt_runner.specs.Plays.{wish_for, next_wish, is_lock}
 use Rattle.lt_runner.specs.Played.{IsAtLock}
-use Rattle.lt_runner.specs.Serial.{Game, turn_of, is_waiting, wishes_in, settles, plays_next, plays_on, retried, swept}
+use Rattle.lt_runner.specs.Serial.{Game, turn_of, is_waiting, settles, plays_next, plays_on, retried, swept}
 use Rattle.lt_runner.specs.Steps.{IsSteady, IsInOrder}
 use Rattle.lt_runner.specs.Board.{BoardView, IsBoard, Shows, HasRoom, turns_of, game_on, numbers_on, turn_on, moved, above}
-use Rattle.lt_runner.proofs.ChoiceLaws.{on_true, on_false}
+use Rattle.lt_runner.proofs.ChoiceLaws.{on_true}
 use Rattle.lt_runner.proofs.SteadyLaws.{waits_goes, turn_has}
 use Rattle.lt_runner.proofs.MoveLaws.{AreOf, are_of, the_turn}
 use Rattle.lt_runner.proofs.WishLaws.{all_placed}

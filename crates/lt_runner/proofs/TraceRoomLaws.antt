@@ -1,25 +1,22 @@
 -- A trace may be played on a board: its lines fit, its transactions have numbers, and there are places for its run.
-use Rattle.std.proofs.Common.{◌≡◌, ℕ, ◌+◌, ◌*◌, ◌^◌, ◌<◌, ◌≤◌, List, [], ◌∷◌, ◌++◌, map, Bool, true, false, ◌==◌, ◌&&◌, not, nat_lt, nat_le, cond, if◌then◌else◌, Option, Some, None, length, nat_cmp, refl, sym, ap, subst, ◌∙◌, arith, append_assoc, append-nil}
+use Rattle.std.proofs.Common.{◌≡◌, ℕ, ◌+◌, ◌*◌, ◌^◌, ◌<◌, ◌≤◌, List, [], ◌∷◌, ◌++◌, map, Bool, true, false, ◌==◌, ◌&&◌, not, nat_lt, nat_le, cond, if◌then◌else◌, Option, Some, None, length, refl, sym, ap, subst, ◌∙◌, arith, append_assoc, append-nil}
 use Rattle.std.specs.List.{AllByRecursion, fold}
-use Rattle.std.specs.List.Sorted.{IsStrictlySortedBy}
 use Rattle.std.specs.Option.{option_or}
 use Rattle.std.proofs.lemmas.Bool.Decides.{nat_tests}
 use Rattle.std.proofs.lemmas.Nat.{mul-le}
 use Rattle.lt_ranges.specs.Numbers.{with_number}
 use Rattle.lt_seq.specs.declared.event.Event.{Event}
 use Rattle.lt_seq.specs.Table.{Setting}
-use Rattle.lt_seq.specs.Yard.{place_after, places_end}
 use Rattle.lt_trace.specs.declared.line.Line.{Line}
 use Rattle.lt_trace.specs.declared.fault.TraceFault.{TraceFault}
 use Rattle.lt_trace.specs.declared.fault.TraceFault.TheVariants as fault
 use Rattle.lt_trace.specs.Trace.{TraceView}
 use Rattle.lt_trace.specs.Grammar.{txns_of, IsTrace, IsBody, AreFaultless, has_begun, has_ended, most_txns, fault_of_deed, fault_of_turn, trees_in, whole}
 use Rattle.lt_trace.proofs.TxnLaws.{txns_more}
-use Rattle.lt_runner.specs.TurnView.{Turn, Seat}
 use Rattle.lt_runner.specs.Seats.{opening_seat}
-use Rattle.lt_runner.specs.Serial.{Game, setting_of, game_of, most_of, most_events, opening_game, played}
+use Rattle.lt_runner.specs.Serial.{setting_of, game_of, most_of, opening_game, played}
 use Rattle.lt_runner.specs.Steps.{IsFit}
-use Rattle.lt_runner.specs.Board.{BoardView, IsBoard, Shows, HasRoom, game_on, numbers_on}
+use Rattle.lt_runner.specs.Board.{BoardView, Shows, HasRoom, game_on, numbers_on}
 use Rattle.lt_runner.proofs.FitLaws.{fit_of_trace}
 use Rattle.lt_runner.proofs.FewLaws.{few_events}
 use Rattle.lt_runner.proofs.OrderLaws.{ascending_sorted}

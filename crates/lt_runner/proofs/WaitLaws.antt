@@ -1,7 +1,6 @@
 -- Who waits on a board, and who is next to ask again.
-use Rattle.std.proofs.Common.{◌≡◌, ◌≢◌, ℕ, ◌+◌, ◌<◌, ◌≤◌, List, [], ◌∷◌, map, Bool, true, false, ◌==◌, ◌||◌, not, nat_lt, if◌then◌else◌, Option, Some, None, length, nat_cmp, refl, sym, ap, subst, ◌∙◌, arith, eq-eqb}
-use Rattle.std.specs.Prelude.{filter}
-use Rattle.std.specs.List.{AllByRecursion, cons_option, fold, find}
+use Rattle.std.proofs.Common.{◌≡◌, ◌≢◌, ℕ, ◌<◌, List, [], ◌∷◌, map, Bool, true, false, ◌==◌, ◌||◌, not, nat_lt, if◌then◌else◌, Option, Some, None, nat_cmp, refl, sym, ap, subst, ◌∙◌, arith, eq-eqb}
+use Rattle.std.specs.List.{AllByRecursion, cons_option}
 use Rattle.std.specs.List.Sorted.{IsStrictlySortedBy}
 use Rattle.std.specs.declared.cmp.Ordering.TheVariants.{Less}
 use Rattle.std.proofs.lemmas.Bool.Decides.{nat_tests}
@@ -12,8 +11,7 @@ use Rattle.lt_requests.specs.declared.wish.Wish.{Wish}
 use Rattle.lt_requests.specs.Registered.{next_above, without, with_wish}
 use Rattle.lt_runner.specs.TurnView.{Turn}
 use Rattle.lt_runner.specs.Plays.{next_wish}
-use Rattle.lt_runner.specs.Serial.{Game, turn_of, with_turn, is_waiting, wishes_in, retried}
-use Rattle.lt_runner.specs.Board.{above}
+use Rattle.lt_runner.specs.Serial.{turn_of, with_turn, wishes_in}
 use Rattle.lt_runner.proofs.ChoiceLaws.{on_true, on_false}
 use Rattle.lt_runner.proofs.WishLaws.{wish_of, wish_of_number, IsPlaced, all_placed}
 

@@ -1,5 +1,5 @@
 -- A board on which a whole trace is played.
-use Rattle.std.proofs.Common.{◌≡◌, ℕ, zero, suc, ◌+◌, ◌<◌, ◌≤◌, List, [], ◌∷◌, map, drop, get_or, Bool, true, false, Option, Some, None, is_some, length, nat_cmp, refl, sym, ap, subst, ◌∙◌, arith}
+use Rattle.std.proofs.Common.{◌≡◌, ℕ, zero, suc, ◌+◌, ◌<◌, ◌≤◌, List, [], ◌∷◌, map, drop, get_or, false, Option, Some, None, length, nat_cmp, refl, sym, ap, subst, ◌∙◌, arith}
 use Rattle.std.specs.List.{AllByRecursion, fold, find, filter_map, cons_option}
 use Rattle.std.specs.List.Sorted.{IsStrictlySortedBy}
 use Rattle.std.proofs.lemmas.List.{at_drop_more}
@@ -13,11 +13,9 @@ use Rattle.lt_runner.specs.Seats.{opening_seat}
 use Rattle.lt_runner.specs.Serial.{Game, is_ready, wishes_in, takes_line, ends_first, ends_one, opening_game, played, ended_in}
 use Rattle.lt_runner.specs.Steps.{IsInOrder, IsFit, IsFitLine, IsTurnOf, KeepsMoves, KeepsSteps}
 use Rattle.lt_runner.specs.Board.{BoardView, IsBoard, IsCalm, Shows, HasRoom, turns_of, game_on, numbers_on}
-use Rattle.lt_runner.proofs.SteadyLaws.{ready_goes, never}
 use Rattle.lt_runner.proofs.MoveLaws.{Holds, holds_swept, holds_settled}
 use Rattle.lt_runner.proofs.StepLaws.{steps_alone, holds_taken, holds_added, found_ready, opening_in_order}
 use Rattle.lt_runner.proofs.RoomLaws.{Reaches, keeps_events, begun, room_before}
-use Rattle.lt_runner.proofs.OnLaws.{room_own}
 
 -- Steps take no events back.
 

@@ -1,6 +1,5 @@
 -- What a play comes to where no other pass acts: the plain scheduler's move.
-use Rattle.std.specs.Prelude.{◌≡◌, ℕ, ◌+◌, ◌<◌, List, [], ◌∷◌, ◌++◌, length, Bool, true, false, Result, Ok, Err}
-use Rattle.lt_ranges.specs.Interval.{Interval}
+use Rattle.std.specs.Prelude.{◌≡◌, ℕ, ◌+◌, ◌<◌, List, [], ◌∷◌, ◌++◌, length, false, Result, Ok, Err}
 use Rattle.lt_seq.specs.declared.event.Deed.TheVariants.{Ask, Free, Join}
 use Rattle.lt_seq.specs.declared.event.Reply.TheVariants.{Granted}
 use Rattle.lt_seq.specs.declared.event.Event.{Event}

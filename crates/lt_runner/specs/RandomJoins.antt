@@ -1,9 +1,7 @@
 -- Random traces whose runs are known, with joins where there is no room, escalate lines and big transactions.
 use Rattle.std.specs.Prelude.{◌≡◌, ℕ, List, [], ◌∷◌, ◌++◌, codes}
-use Rattle.lt_ranges.specs.declared.key.Key.{Key}
-use Rattle.lt_ranges.specs.declared.key.Key.TheVariants.{Below, Bytes, After, Above}
+use Rattle.lt_ranges.specs.declared.key.Key.TheVariants.{After}
 use Rattle.lt_ranges.specs.Short.{between, from_to, at}
-use Rattle.lt_ranges.specs.Interval.{Interval}
 use Rattle.lt_trace.specs.declared.line.Line.{Line}
 use Rattle.lt_trace.specs.declared.line.LineDeed.TheVariants.{Try, Lock, End, Abort, Escalate, Big}
 use Rattle.lt_trace.specs.Trace.{TraceView}

@@ -1,11 +1,9 @@
 -- Random traces whose runs are known: deadlocks, some of them at a retry, several wishes, buffers, other first places.
 use Rattle.std.specs.Prelude.{◌≡◌, ℕ, List, [], ◌∷◌, ◌++◌, codes}
-use Rattle.lt_ranges.specs.declared.key.Key.{Key}
-use Rattle.lt_ranges.specs.declared.key.Key.TheVariants.{Below, Bytes, After, Above}
+use Rattle.lt_ranges.specs.declared.key.Key.TheVariants.{Below, Bytes, Above}
 use Rattle.lt_ranges.specs.Short.{between, from_to, at}
-use Rattle.lt_ranges.specs.Interval.{Interval}
 use Rattle.lt_trace.specs.declared.line.Line.{Line}
-use Rattle.lt_trace.specs.declared.line.LineDeed.TheVariants.{Try, Lock, End, Abort, Escalate, Big}
+use Rattle.lt_trace.specs.declared.line.LineDeed.TheVariants.{Try, Lock, End, Abort, Escalate}
 use Rattle.lt_trace.specs.Trace.{TraceView}
 use Rattle.lt_runner.specs.Rows.{line}
 use Rattle.lt_runner.specs.Serial.{serial, ran_text}

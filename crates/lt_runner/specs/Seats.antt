@@ -1,5 +1,5 @@
 -- What the calls of a turn make of it.
-use Rattle.std.specs.Prelude.{◌≡◌, ℕ, List, [], ◌∷◌, ◌++◌, Option, Some, None, Bool, true, false, replicate}
+use Rattle.std.specs.Prelude.{ℕ, List, [], ◌∷◌, ◌++◌, Option, Some, None, Bool, false, replicate}
 use Rattle.lt_trace.specs.declared.line.Line.{Line}
 use Rattle.lt_requests.specs.declared.wish.Wish.{Wish}
 use Rattle.lt_runner.specs.TurnView.{Turn, Seat}

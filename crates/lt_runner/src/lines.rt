@@ -54,12 +54,7 @@ impl Board {
     }
 
     /// Makes a move at the next line of a transaction.
-    fn move_on<Y: Yard>(
-        &mut self,
-        yard: &Y,
-        pass: &mut Y::Pass,
-        txn: u64,
-    ) -> Result<(), AllocError>
+    fn move_on<Y: Yard>(&mut self, yard: &Y, pass: &mut Y::Pass, txn: u64) -> Result<(), AllocError>
         requires acts { HasTable (Y.Pass.origin pass.old) (Y.identity yard.now) (Y.setting yard.now) (Y.Pass.view pass.old) }
         requires board { IsBoard (Y.setting yard.now) (numbers_on self.old) (Y.Pass.view pass.old).front self.old }
         requires goes { GoesOn (Y.setting yard.now) txn self.old }

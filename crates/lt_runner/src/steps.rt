@@ -22,12 +22,7 @@ impl Board {
 
     /// Adds a line of a transaction. It is played at once where the transaction is ready, and passed over where it has
     /// ended.
-    fn add<Y: Yard>(
-        &mut self,
-        yard: &Y,
-        pass: &mut Y::Pass,
-        line: &Line,
-    ) -> Result<(), AllocError>
+    fn add<Y: Yard>(&mut self, yard: &Y, pass: &mut Y::Pass, line: &Line) -> Result<(), AllocError>
         requires acts { HasTable (Y.Pass.origin pass.old) (Y.identity yard.now) (Y.setting yard.now) (Y.Pass.view pass.old) }
         requires board { IsBoard (Y.setting yard.now) (numbers_on self.old) (Y.Pass.view pass.old).front self.old }
         requires line { IsFit (Y.setting yard.now) (numbers_on self.old) line.now }

@@ -31,12 +31,7 @@ impl Board {
     }
 
     /// Asks once more for what a transaction waits for. One that is granted goes on with its lines.
-    fn retry<Y: Yard>(
-        &mut self,
-        yard: &Y,
-        pass: &mut Y::Pass,
-        txn: u64,
-    ) -> Result<(), AllocError>
+    fn retry<Y: Yard>(&mut self, yard: &Y, pass: &mut Y::Pass, txn: u64) -> Result<(), AllocError>
         requires acts { HasTable (Y.Pass.origin pass.old) (Y.identity yard.now) (Y.setting yard.now) (Y.Pass.view pass.old) }
         requires board { IsBoard (Y.setting yard.now) (numbers_on self.old) (Y.Pass.view pass.old).front self.old }
         requires number { is_in txn (numbers_on self.old) ≡ true }
@@ -52,11 +47,7 @@ impl Board {
     }
 
     /// Each one that waits asks again, in ascending order.
-    pub(crate) fn sweep<Y: Yard>(
-        &mut self,
-        yard: &Y,
-        pass: &mut Y::Pass,
-    ) -> Result<(), AllocError>
+    pub(crate) fn sweep<Y: Yard>(&mut self, yard: &Y, pass: &mut Y::Pass) -> Result<(), AllocError>
         requires acts { HasTable (Y.Pass.origin pass.old) (Y.identity yard.now) (Y.setting yard.now) (Y.Pass.view pass.old) }
         requires board { IsBoard (Y.setting yard.now) (numbers_on self.old) (Y.Pass.view pass.old).front self.old }
         requires room { HasRoom (Y.setting yard.now) (numbers_on self.old) (swept (Y.setting yard.now) (numbers_on self.old) (game_on (Y.Pass.view pass.old).front self.old)) }
@@ -74,11 +65,7 @@ impl Board {
     }
 
     /// Sweeps while a transaction was released since the last sweep began.
-    pub(crate) fn settle<Y: Yard>(
-        &mut self,
-        yard: &Y,
-        pass: &mut Y::Pass,
-    ) -> Result<(), AllocError>
+    pub(crate) fn settle<Y: Yard>(&mut self, yard: &Y, pass: &mut Y::Pass) -> Result<(), AllocError>
         requires acts { HasTable (Y.Pass.origin pass.old) (Y.identity yard.now) (Y.setting yard.now) (Y.Pass.view pass.old) }
         requires board { IsBoard (Y.setting yard.now) (numbers_on self.old) (Y.Pass.view pass.old).front self.old }
         requires room { HasRoom (Y.setting yard.now) (numbers_on self.old) (settled (Y.setting yard.now) (numbers_on self.old) (game_on (Y.Pass.view pass.old).front self.old)) }

@@ -1,9 +1,6 @@
-use Rattle.std.proofs.Common.{◌≡◌, ℕ, Option, Some, None, refl, lit<, lit≤}
+use Rattle.std.proofs.Common.{◌≡◌, ℕ, Some, None, refl, lit<, lit≤}
 use Rattle.std.specs.Fmt.{digits}
 use Rattle.lt_ranges.specs.Key.{key_le}
-use Rattle.lt_seq.specs.declared.event.Event.{Event}
-use Rattle.lt_seq.specs.History.{IsNext}
-use Rattle.lt_requests.specs.declared.wish.Wish.{Wish}
 use Rattle.lt_runner.specs.LeftOut.{wish}
 use Rattle.lt_runner.proofs.laws.registered_while_searching.Goals as goal
 

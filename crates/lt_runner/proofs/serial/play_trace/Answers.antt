@@ -1,4 +1,3 @@
-use Rattle.std.proofs.Common.{◌≡◌}
 use Rattle.lt_trace.specs.Grammar.{txns_of}
 use Rattle.lt_runner.proofs.OnLaws.{own_board}
 use Rattle.lt_runner.proofs.TraceRoomLaws.{start_shows, start_fresh, start_fits, start_room, all_played}

@@ -1,4 +1,4 @@
-use Rattle.std.proofs.Common.{◌≡◌, ◌∙◌, ap, subst, map, slice_set, []}
+use Rattle.std.proofs.Common.{◌∙◌, ap, subst, map, slice_set, []}
 use Rattle.lt_seq.specs.declared.plan.YardPlan.{YardPlan}
 use Rattle.lt_seq.specs.Table.{Setting}
 use Rattle.lt_seq.specs.Passes.{IsRest}

@@ -1,7 +1,7 @@
-use Rattle.std.proofs.Common.{◌≡◌, false, is_some, sym, ◌∙◌}
+use Rattle.std.proofs.Common.{sym, ◌∙◌}
 use Rattle.std.proofs.lemmas.Result.{on_ok_weaker}
 use Rattle.lt_runner.specs.Serial.{plays_next}
-use Rattle.lt_runner.specs.Board.{Shows, numbers_on, turn_on, game_on}
+use Rattle.lt_runner.specs.Board.{Shows, numbers_on, game_on}
 use Rattle.lt_runner.proofs.OnLaws.{own_board}
 use Rattle.lt_runner.proofs.AddedLaws.{adding, added_on, added_waits, added_ready, added_room, added_shows}
 use Rattle.lt_runner.proofs.board.Board.add.Goals as goal

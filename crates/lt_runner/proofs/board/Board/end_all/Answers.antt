@@ -1,4 +1,4 @@
-use Rattle.std.proofs.Common.{◌≡◌, ℕ, ◌<◌, length, drop, fold, rules, arith}
+use Rattle.std.proofs.Common.{ℕ, ◌<◌, length, fold, rules, arith}
 use Rattle.lt_runner.specs.Serial.{ends_one}
 use Rattle.lt_runner.specs.Board.{game_on, numbers_on}
 use Rattle.lt_runner.proofs.BoardLaws.{width}

@@ -1,6 +1,6 @@
-use Rattle.std.proofs.Common.{◌≡◌, ℕ, fold}
+use Rattle.std.proofs.Common.{ℕ, fold}
 use Rattle.std.proofs.lemmas.Result.{on_ok_weaker}
-use Rattle.lt_runner.specs.Serial.{takes_line, ends_one}
+use Rattle.lt_runner.specs.Serial.{ends_one}
 use Rattle.lt_runner.specs.Board.{Shows, game_on, numbers_on}
 use Rattle.lt_runner.proofs.WholeRunLaws.{lines_room, ends_room_all, all_shows}
 use Rattle.lt_runner.proofs.board.Board.play_all.Goals as goal

@@ -1,4 +1,3 @@
-use Rattle.std.proofs.Common.{◌≡◌, ℕ, rules, sym, ap, subst, ◌∙◌}
 use Rattle.std.proofs.lemmas.Result.{on_ok_weaker}
 use Rattle.lt_runner.specs.PlaysAlone.{IsPlayedAtOnce}
 use Rattle.lt_runner.specs.Board.{BoardView, numbers_on, turn_on}

@@ -1,5 +1,5 @@
-use Rattle.std.proofs.Common.{◌≡◌, ◌<◌, false, true, length, drop, sym, ◌∙◌, rules, arith}
-use Rattle.lt_runner.specs.Serial.{is_ready, plays_on}
+use Rattle.std.proofs.Common.{◌<◌, length, drop, sym, ◌∙◌, rules, arith}
+use Rattle.lt_runner.specs.Serial.{plays_on}
 use Rattle.lt_runner.specs.Board.{game_on, numbers_on, turn_on}
 use Rattle.lt_runner.proofs.OnLaws.{on_stops, on_empty, on_room, on_more}
 use Rattle.lt_runner.proofs.board.Board.play_on.Goals as goal

@@ -1,5 +1,3 @@
-use Rattle.std.proofs.Common.{◌≡◌, ℕ, List, subst, sym, ap, ◌∙◌}
-use Rattle.lt_seq.specs.declared.event.Event.{Event}
 use Rattle.std.proofs.lemmas.Result.{on_ok_weaker}
 use Rattle.lt_runner.specs.Serial.{plays_on}
 use Rattle.lt_runner.specs.Board.{Shows, game_on, numbers_on, turn_on}

@@ -1,9 +1,8 @@
-use Rattle.std.proofs.Common.{◌≡◌, ℕ, List, length, arith, ap, sym, ◌∙◌}
+use Rattle.std.proofs.Common.{◌≡◌, ap}
 use Rattle.std.proofs.lemmas.Result.{on_ok_weaker}
 use Rattle.lt_seq.specs.Yard.{bar_for}
 use Rattle.lt_requests.specs.Registered.{without}
-use Rattle.lt_runner.specs.StartsAlone.{IsStartedAtOnce}
-use Rattle.lt_runner.specs.Board.{BoardView, IsTaken, numbers_on, turn_on, turns_of}
+use Rattle.lt_runner.specs.Board.{BoardView, IsTaken, numbers_on, turn_on}
 use Rattle.lt_runner.proofs.SteadyLaws.{waits_goes}
 use Rattle.lt_runner.proofs.SweepingLaws.{lock_wish}
 use Rattle.lt_runner.proofs.LockMoveLaws.{has_lock, locking, steady_on, left_retry, waiting_retry, answer_shows, answer_for}

@@ -1,4 +1,4 @@
-use Rattle.std.proofs.Common.{◌≡◌, ◌<◌, ℕ, length, drop, rules, arith, sym, ap, ◌∙◌}
+use Rattle.std.proofs.Common.{◌<◌, length, drop, rules, arith, sym, ◌∙◌}
 use Rattle.lt_runner.specs.Serial.{settled}
 use Rattle.lt_runner.specs.Board.{game_on, numbers_on}
 use Rattle.lt_runner.proofs.BoardLaws.{width}

@@ -1,4 +1,4 @@
-use Rattle.std.proofs.Common.{◌≡◌, ℕ, Some, None, rules, sym, ap, ◌∙◌}
+use Rattle.std.proofs.Common.{rules, sym, ◌∙◌}
 use Rattle.lt_runner.specs.Serial.{swept}
 use Rattle.lt_runner.specs.Board.{game_on, numbers_on}
 use Rattle.lt_runner.proofs.SweepingLaws.{sweep_begins, sweep_next, sweep_room, sweep_more, sweep_ends, sweep_falls}

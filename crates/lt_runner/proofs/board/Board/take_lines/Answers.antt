@@ -1,4 +1,4 @@
-use Rattle.std.proofs.Common.{◌≡◌, ◌<◌, length, drop, fold, rules, arith}
+use Rattle.std.proofs.Common.{fold, rules}
 use Rattle.lt_runner.specs.Serial.{takes_line}
 use Rattle.lt_runner.specs.Board.{game_on, numbers_on}
 use Rattle.lt_runner.proofs.WholeRunLaws.{taking_fit, taking_room, taking_more}

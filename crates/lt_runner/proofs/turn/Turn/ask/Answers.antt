@@ -1,4 +1,4 @@
-use Rattle.std.proofs.Common.{rules, ◌≡◌, List, [], None, Err, Ok, sym, ap, subst, ◌∙◌}
+use Rattle.std.proofs.Common.{◌≡◌, [], None, Err, sym, ap, subst, ◌∙◌}
 use Rattle.lt_seq.specs.declared.event.Deed.TheVariants.{Ask}
 use Rattle.lt_seq.specs.declared.event.Reply.{Reply}
 use Rattle.lt_seq.specs.declared.event.Reply.TheVariants.{Granted}
@@ -6,12 +6,11 @@ use Rattle.lt_seq.specs.declared.fault.Fault.{Fault}
 use Rattle.lt_seq.specs.declared.fault.Fault.TheVariants.{Busy, HistoryFull, OutOfLocks}
 use Rattle.lt_seq.specs.Yard.{AskAnswers}
 use Rattle.lt_history.specs.declared.outcome.Outcome.TheVariants.{OutOfLocks as StoppedAt}
-use Rattle.lt_runner.specs.TurnView.{Seat}
-use Rattle.lt_runner.specs.Turn.{asked_at, ending, reply_in}
+use Rattle.lt_runner.specs.Turn.{asked_at, reply_in}
 use Rattle.lt_runner.specs.Attempt.{bar_of}
 use Rattle.lt_runner.specs.Seats.{idle}
 use Rattle.lt_runner.specs.PlaysOn.{IsFit, IsNextAsk, PlaysOn}
-use Rattle.lt_runner.specs.PlaysAlone.{IsCaused, MayPlayAtOnce, IsPlayedAtOnce, IsAnsweredAtOnce}
+use Rattle.lt_runner.specs.PlaysAlone.{IsPlayedAtOnce}
 use Rattle.lt_runner.proofs.PlayMoveLaws.{asked_at_once, stopped_at_once, ask_not_refused, is_caused_by_ask}
 use Rattle.lt_runner.proofs.PlaysOnLaws.{plays_asked, plays_stopped, ask_refused, answer_of, fit_ended}
 use Rattle.lt_runner.proofs.turn.Turn.ask.Goals as goal

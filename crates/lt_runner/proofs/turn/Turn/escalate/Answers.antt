@@ -1,9 +1,9 @@
-use Rattle.std.proofs.Common.{rules, [], Err, Ok, sym, ap, subst, ◌∙◌, ◌≡◌, ℕ}
+use Rattle.std.proofs.Common.{[], Err, Ok, sym, subst, ℕ}
 use Rattle.lt_seq.specs.declared.event.Deed.TheVariants.{Join}
 use Rattle.lt_seq.specs.Yard.{Answers}
 use Rattle.lt_runner.specs.TurnView.{Seat}
 use Rattle.lt_runner.specs.PlaysOn.{PlaysOn, UnlessShort}
-use Rattle.lt_runner.specs.PlaysAlone.{IsPlayedAtOnce, IsAnsweredAtOnce}
+use Rattle.lt_runner.specs.PlaysAlone.{IsPlayedAtOnce}
 use Rattle.lt_runner.proofs.PlayMoveLaws.{escalated_at_once, call_not_refused, is_caused_by}
 use Rattle.lt_runner.proofs.PlaysOnLaws.{plays_escalated, kept_unless}
 use Rattle.lt_runner.proofs.turn.Turn.escalate.Goals as goal

@@ -1,4 +1,4 @@
-use Rattle.std.proofs.Common.{rules, [], Err, Ok, sym, ap, subst, ◌∙◌, ◌≡◌, ℕ}
+use Rattle.std.proofs.Common.{[], Err, Ok, sym, subst, ℕ}
 use Rattle.lt_seq.specs.declared.event.Deed.TheVariants.{Free}
 use Rattle.lt_seq.specs.Yard.{Answers}
 use Rattle.lt_runner.specs.TurnView.{Seat}

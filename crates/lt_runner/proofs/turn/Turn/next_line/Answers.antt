@@ -1,4 +1,4 @@
-use Rattle.std.proofs.Common.{◌≡◌, ◌∷◌, rules}
+use Rattle.std.proofs.Common.{rules}
 use Rattle.lt_runner.proofs.ListLaws.{first_of}
 use Rattle.lt_runner.proofs.turn.Turn.next_line.Goals as goal
 

@@ -1,11 +1,11 @@
-use Rattle.std.proofs.Common.{rules, ◌≡◌, ◌+◌, ◌<◌, List, [], Err, Ok, false, length, refl, sym, ap, subst, ◌∙◌, arith}
+use Rattle.std.proofs.Common.{◌≡◌, ◌<◌, List, [], Err, false, length, refl, sym, ap, subst, ◌∙◌, arith}
 use Rattle.lt_runner.specs.declared.release.Release.{Release}
 use Rattle.lt_runner.specs.TurnView.{Turn, Seat}
 use Rattle.lt_runner.specs.Turn.{rest_of_release}
 use Rattle.lt_runner.specs.PlaysOn.{IsFit, PlaysOn, UnlessShort}
 use Rattle.lt_runner.proofs.PlaysOnLaws.{plays_not, plays_then, ready_still, unless_then, length_rest}
-use Rattle.lt_runner.specs.PlaysAlone.{IsCaused, IsFreedAtOnce, MayPlayAtOnce}
-use Rattle.lt_runner.proofs.PlayMoveLaws.{is_caused_since, with_rest, may_still, released_at_once, stopped_by_free}
+use Rattle.lt_runner.specs.PlaysAlone.{IsCaused, IsFreedAtOnce}
+use Rattle.lt_runner.proofs.PlayMoveLaws.{is_caused_since, with_rest, may_still}
 use Rattle.lt_runner.proofs.turn.Turn.release.Goals as goal
 
 pub loop-free-init : goal.loop-free-init
@@ -70,9 +70,10 @@ loop-free-preserved g c =
           let some = c.in-Some.ensures.some in
           let here = i.alone may in
           let front = subst (IsFreedAtOnce setting before new between.turn c.in-Some.release) c.in-Ok.is (c.free.ensures.alone here.0) in
-          let own : is.turn.txn ≡ between.turn.txn = ap (λ (s : Seat). s.turn.txn) freed in
-          (may_still setting before new between.turn is.turn c.in-Some.release some.0 some.1 releases_are plays.goes plays.rights _ front here.0,
-          with_rest setting before new between.turn is.turn c.in-Some.release some.0 some.1 releases_are own front ∙ here.1);
+          let own : is.turn.txn ≡ between.turn.txn = ap (λ (s : Seat). s.turn.txn) freed in (
+            may_still setting before new between.turn is.turn c.in-Some.release some.0 some.1 releases_are plays.goes plays.rights _ front here.0,
+            with_rest setting before new between.turn is.turn c.in-Some.release some.0 some.1 releases_are own front ∙ here.1,
+          );
     }
 
 pub returns-in-Err-clause-caused : goal.returns-in-Err-clause-caused

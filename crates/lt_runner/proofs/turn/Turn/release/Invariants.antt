@@ -1,4 +1,4 @@
-use Rattle.std.proofs.Common.{◌≡◌, ◌+◌, [], length, IsTrue, is_some, false}
+use Rattle.std.proofs.Common.{◌≡◌, ◌+◌, [], length, false}
 use Rattle.lt_seq.specs.Yard.{origin_of}
 use Rattle.lt_runner.specs.PlaysOn.{IsReady, IsFit, PlaysOn}
 use Rattle.lt_runner.specs.PlaysAlone.{MayPlayAtOnce, with_frees}
