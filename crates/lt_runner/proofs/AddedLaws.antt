@@ -28,7 +28,8 @@ use Rattle.lt_runner.proofs.LockMoveLaws.{steady_on, txn_is}
 use Rattle.lt_runner.proofs.RoomLaws.{room_rounds, order_next, order_swept}
 use Rattle.lt_runner.proofs.OnLaws.{shows_of, shows_then, is_on, room_own}
 
-sorted_on : (setting : Setting) (txns : List ℕ) (events : List Event) (board : BoardView) → IsBoard setting txns events board → IsStrictlySortedBy nat_cmp (numbers_on board)
+sorted_on : (setting : Setting) (txns : List ℕ) (events : List Event) (board : BoardView) → IsBoard setting txns events board →
+    IsStrictlySortedBy nat_cmp (numbers_on board)
 sorted_on setting txns events board stands = subst (IsStrictlySortedBy nat_cmp) (sym stands.order.numbers) stands.order.sorted
 
 -- A line behind the others.
@@ -43,16 +44,19 @@ wish_longer txn (l ∷ ls) line lock = refl
 same_wish : (turn : Turn) (line : Line) → (turn.waits ≡ true → IsAtLock turn.lines) → wish_of turn ≡ wish_of (lined turn line)
 same_wish turn line held = by_test turn.waits refl
   where
-    by_test : (b : Bool) → turn.waits ≡ b → (if b then next_wish turn.txn turn.lines else None) ≡ (if b then next_wish turn.txn (turn.lines ++ line ∷ []) else None)
+    by_test : (b : Bool) → turn.waits ≡ b →
+        (if b then next_wish turn.txn turn.lines else None) ≡ (if b then next_wish turn.txn (turn.lines ++ line ∷ []) else None)
     by_test true e = sym (wish_longer turn.txn turn.lines line (held e))
     by_test false e = refl
 
-fits_on : (setting : Setting) (txns : List ℕ) (events : List Event) (board : BoardView) (line : Line) → IsBoard setting txns events board → IsFit setting txns line →
+fits_on : (setting : Setting) (txns : List ℕ) (events : List Event) (board : BoardView) (line : Line) → IsBoard setting txns events board →
+    IsFit setting txns line →
     IsFitLine setting (turn_on setting line.txn board).txn line
 fits_on setting txns events board line stands fit = record { own = sym (txn_is setting txns line.txn events board stands fit.number); deed = fit.deed }
 
 -- it is put behind the others of its transaction
-pub put_shows : (setting : Setting) (txns : List ℕ) (events : List Event) (board new : BoardView) (line : Line) → IsBoard setting txns events board → IsFit setting txns line →
+pub put_shows : (setting : Setting) (txns : List ℕ) (events : List Event) (board new : BoardView) (line : Line) →
+    IsBoard setting txns events board → IsFit setting txns line →
     is_some (turn_on setting line.txn board).outcome ≡ false → IsLinePut line board new → Shows setting txns events new (takes (turn_on setting line.txn board) line (game_on events board))
 put_shows setting txns events board new line stands fit goes put =
     subst (λ (b : BoardView). Shows setting txns events b (takes turn line game)) (sym (put.board d)) shows_here
@@ -111,11 +115,13 @@ pub record IsAdding (setting : Setting) (txns : List ℕ) (events : List Event) 
   pub goes : is_some (turn_on setting line.txn board).outcome ≡ false
   pub shows : Shows setting txns events mid (takes (turn_on setting line.txn board) line (game_on events board))
 
-pub adding : (setting : Setting) (txns : List ℕ) (events : List Event) (board new : BoardView) (line : Line) → IsBoard setting txns events board → IsFit setting txns line →
+pub adding : (setting : Setting) (txns : List ℕ) (events : List Event) (board new : BoardView) (line : Line) →
+    IsBoard setting txns events board → IsFit setting txns line →
     is_some (turn_on setting line.txn board).outcome ≡ false → IsLinePut line board new → IsAdding setting txns events board new line
 adding setting txns events board new line stands fit goes put = record { stands = stands; fit = fit; goes = goes; shows = put_shows setting txns events board new line stands fit goes put }
 
-taken_turn : (setting : Setting) (txns : List ℕ) (events : List Event) (board mid : BoardView) (line : Line) → IsAdding setting txns events board mid line →
+taken_turn : (setting : Setting) (txns : List ℕ) (events : List Event) (board mid : BoardView) (line : Line) →
+    IsAdding setting txns events board mid line →
     turn_on setting line.txn mid ≡ lined (turn_on setting line.txn board) line
 taken_turn setting txns events board mid line at =
     let turn = turn_on setting line.txn board in
@@ -124,16 +130,19 @@ taken_turn setting txns events board mid line at =
     ∙ ap (λ (n : ℕ). turn_of setting n (with_turn (lined turn line) (turns_of board.seats))) (sym same)
     ∙ turn_of_with setting (lined turn line) (turns_of board.seats) (ap (λ (n : ℕ). is_in n (numbers_on board)) same ∙ ap (is_in line.txn) at.stands.order.numbers ∙ at.fit.number)
 
-pub added_on : (setting : Setting) (txns : List ℕ) (events : List Event) (board mid : BoardView) (line : Line) → IsAdding setting txns events board mid line → IsOn line.txn mid
+pub added_on : (setting : Setting) (txns : List ℕ) (events : List Event) (board mid : BoardView) (line : Line) →
+    IsAdding setting txns events board mid line → IsOn line.txn mid
 added_on setting txns events board mid line at = is_on setting txns line.txn events mid at.fit.number at.shows.stands
 
-added_goes : (setting : Setting) (txns : List ℕ) (events : List Event) (board : BoardView) (line : Line) → is_some (turn_on setting line.txn board).outcome ≡ false →
+added_goes : (setting : Setting) (txns : List ℕ) (events : List Event) (board : BoardView) (line : Line) →
+    is_some (turn_on setting line.txn board).outcome ≡ false →
     added setting line (turn_on setting line.txn board) (game_on events board)
     ≡ (let turn = turn_on setting line.txn board in let next = takes turn line (game_on events board) in if is_waiting turn then next else plays_next setting turn.txn next)
 added_goes setting txns events board line goes = on_false (is_some (turn_on setting line.txn board).outcome) (game_on events board) _ goes
 
 -- where it waits, the line stays behind the others
-pub added_waits : (setting : Setting) (txns : List ℕ) (events : List Event) (board mid : BoardView) (line : Line) → IsAdding setting txns events board mid line → (turn_on setting line.txn mid).waits ≡ true →
+pub added_waits : (setting : Setting) (txns : List ℕ) (events : List Event) (board mid : BoardView) (line : Line) →
+    IsAdding setting txns events board mid line → (turn_on setting line.txn mid).waits ≡ true →
     Shows setting txns events mid (added setting line (turn_on setting line.txn board) (game_on events board))
 added_waits setting txns events board mid line at held =
     let turn = turn_on setting line.txn board in
@@ -153,7 +162,8 @@ goes_ready turn goes quiet = by_outcome turn.outcome goes ∙ ap not quiet
     by_outcome None e = refl
     by_outcome (Some outcome) e = absurd cc
 
-pub added_ready : (setting : Setting) (txns : List ℕ) (events : List Event) (board mid : BoardView) (line : Line) → IsAdding setting txns events board mid line → (turn_on setting line.txn mid).waits ≡ false →
+pub added_ready : (setting : Setting) (txns : List ℕ) (events : List Event) (board mid : BoardView) (line : Line) →
+    IsAdding setting txns events board mid line → (turn_on setting line.txn mid).waits ≡ false →
     GoesOn setting line.txn mid
 added_ready setting txns events board mid line at quiet =
     let is = taken_turn setting txns events board mid line at in
@@ -163,7 +173,8 @@ added_ready setting txns events board mid line at quiet =
       left = subst (λ (t : Turn). t.lines ≢ []) (sym is) (some_line (turn_on setting line.txn board).lines line);
     }
 
-added_next : (setting : Setting) (txns : List ℕ) (events : List Event) (board mid : BoardView) (line : Line) → IsAdding setting txns events board mid line → (turn_on setting line.txn mid).waits ≡ false →
+added_next : (setting : Setting) (txns : List ℕ) (events : List Event) (board mid : BoardView) (line : Line) →
+    IsAdding setting txns events board mid line → (turn_on setting line.txn mid).waits ≡ false →
     plays_next setting line.txn (game_on events mid) ≡ added setting line (turn_on setting line.txn board) (game_on events board)
 added_next setting txns events board mid line at quiet =
     let turn = turn_on setting line.txn board in
@@ -173,23 +184,27 @@ added_next setting txns events board mid line at quiet =
     ∙ ap (λ (n : ℕ). plays_next setting n next) (sym (txn_is setting txns line.txn events board at.stands at.fit.number))
     ∙ sym (added_goes setting txns events board line at.goes ∙ on_false (is_waiting turn) next (plays_next setting turn.txn next) here)
 
-pub added_room : (setting : Setting) (txns : List ℕ) (events : List Event) (board mid : BoardView) (line : Line) → IsAdding setting txns events board mid line → (turn_on setting line.txn mid).waits ≡ false →
+pub added_room : (setting : Setting) (txns : List ℕ) (events : List Event) (board mid : BoardView) (line : Line) →
+    IsAdding setting txns events board mid line → (turn_on setting line.txn mid).waits ≡ false →
     HasRoom setting txns (added setting line (turn_on setting line.txn board) (game_on events board)) → HasRoom setting (numbers_on mid) (plays_next setting line.txn (game_on events mid))
 added_room setting txns events board mid line at quiet room =
     room_own setting txns events mid _ at.shows.stands (subst (HasRoom setting txns) (sym (added_next setting txns events board mid line at quiet)) room)
 
-pub added_shows : (setting : Setting) (txns : List ℕ) (events new_events : List Event) (board mid new : BoardView) (line : Line) → IsAdding setting txns events board mid line → (turn_on setting line.txn mid).waits ≡ false →
+pub added_shows : (setting : Setting) (txns : List ℕ) (events new_events : List Event) (board mid new : BoardView) (line : Line) →
+    IsAdding setting txns events board mid line → (turn_on setting line.txn mid).waits ≡ false →
     Shows setting (numbers_on mid) new_events new (plays_next setting line.txn (game_on events mid)) → Shows setting txns new_events new (added setting line (turn_on setting line.txn board) (game_on events board))
 added_shows setting txns events new_events board mid new line at quiet shows =
     shows_then setting txns new_events new _ _ (shows_of setting txns events new_events mid new _ at.shows.stands shows) (added_next setting txns events board mid line at quiet)
 
 -- where it has ended, it is passed over
-pub added_ended : (setting : Setting) (txns : List ℕ) (events : List Event) (board : BoardView) (line : Line) → IsBoard setting txns events board → is_some (turn_on setting line.txn board).outcome ≡ true →
+pub added_ended : (setting : Setting) (txns : List ℕ) (events : List Event) (board : BoardView) (line : Line) →
+    IsBoard setting txns events board → is_some (turn_on setting line.txn board).outcome ≡ true →
     Shows setting txns events board (added setting line (turn_on setting line.txn board) (game_on events board))
 added_ended setting txns events board line stands ended =
     record { stands = stands; game_is = sym (on_true (is_some (turn_on setting line.txn board).outcome) (game_on events board) _ ended) }
 
-order_added : (setting : Setting) (txns : List ℕ) (events : List Event) (board : BoardView) (line : Line) → IsBoard setting txns events board → IsFit setting txns line →
+order_added : (setting : Setting) (txns : List ℕ) (events : List Event) (board : BoardView) (line : Line) →
+    IsBoard setting txns events board → IsFit setting txns line →
     IsInOrder setting txns (added setting line (turn_on setting line.txn board) (game_on events board))
 order_added setting txns events board line stands fit = by_outcome (is_some turn.outcome) refl
   where
@@ -214,19 +229,22 @@ order_added setting txns events board line stands fit = by_outcome (is_some turn
         let there = turn_of_with setting (lined turn line) game.turns (ap (is_in turn.txn) stands.order.numbers ∙ of_game.number) in
         order_next setting txns turn.txn next of_game.number (ap (λ (t : Turn). is_some t.outcome) there ∙ goes) (taken goes)
 
-    by_outcome : (b : Bool) → is_some turn.outcome ≡ b → IsInOrder setting txns (if b then game else if is_waiting turn then next else plays_next setting turn.txn next)
+    by_outcome : (b : Bool) → is_some turn.outcome ≡ b →
+        IsInOrder setting txns (if b then game else if is_waiting turn then next else plays_next setting turn.txn next)
     by_outcome true ended = stands.order
     by_outcome false goes = by_waiting (is_waiting turn) goes
 
 -- there is room for it, where there is for the sweeps behind it
-pub taken_room : (setting : Setting) (txns : List ℕ) (events : List Event) (board : BoardView) (line : Line) → IsBoard setting txns events board → IsFit setting txns line →
+pub taken_room : (setting : Setting) (txns : List ℕ) (events : List Event) (board : BoardView) (line : Line) →
+    IsBoard setting txns events board → IsFit setting txns line →
     HasRoom setting txns (takes_line setting txns (game_on events board) line) → HasRoom setting txns (added setting line (turn_on setting line.txn board) (game_on events board))
 taken_room setting txns events board line stands fit room =
     room_rounds setting txns txns (added setting line (turn_on setting line.txn board) (game_on events board)) (order_added setting txns events board line stands fit) room
 
 -- The first that is ready.
 
-find_turns : (seats : List Seat) → find is_ready (turns_of seats) ≡ option_map (λ (s : Seat). s.turn) (find (λ (s : Seat). is_ready s.turn) seats)
+find_turns : (seats : List Seat) →
+    find is_ready (turns_of seats) ≡ option_map (λ (s : Seat). s.turn) (find (λ (s : Seat). is_ready s.turn) seats)
 find_turns [] = refl
 find_turns (s ∷ ss) = by_test (is_ready s.turn) (find_turns ss)
   where
@@ -235,7 +253,8 @@ find_turns (s ∷ ss) = by_test (is_ready s.turn) (find_turns ss)
     by_test true rest = refl
     by_test false rest = rest
 
-pub none_ready : (seats : List Seat) → option_map (λ (s : Seat). s.turn.txn) (find (λ (s : Seat). is_ready s.turn) seats) ≡ None → find is_ready (turns_of seats) ≡ None
+pub none_ready : (seats : List Seat) → option_map (λ (s : Seat). s.turn.txn) (find (λ (s : Seat). is_ready s.turn) seats) ≡ None →
+    find is_ready (turns_of seats) ≡ None
 none_ready seats none = find_turns seats ∙ by_found (find (λ (s : Seat). is_ready s.turn) seats) none
   where
     by_found : (o : Option Seat) → option_map (λ (s : Seat). s.turn.txn) o ≡ None → option_map (λ (s : Seat). s.turn) o ≡ None
@@ -252,7 +271,8 @@ pub first_is : (setting : Setting) (txns : List ℕ) (events : List Event) (boar
     option_map (λ (s : Seat). s.turn.txn) (find (λ (s : Seat). is_ready s.turn) board.seats) ≡ Some txn → IsFirst setting txns board txn
 first_is setting txns events board txn stands some = by_found (find (λ (s : Seat). is_ready s.turn) board.seats) refl some
   where
-    by_found : (o : Option Seat) → find (λ (s : Seat). is_ready s.turn) board.seats ≡ o → option_map (λ (s : Seat). s.turn.txn) o ≡ Some txn → IsFirst setting txns board txn
+    by_found : (o : Option Seat) → find (λ (s : Seat). is_ready s.turn) board.seats ≡ o →
+        option_map (λ (s : Seat). s.turn.txn) o ≡ Some txn → IsFirst setting txns board txn
     by_found None e h = absurd cc
     by_found (Some s) e h =
         let same : s.turn.txn ≡ txn = cc in
@@ -265,7 +285,8 @@ first_is setting txns events board txn stands some = by_found (find (λ (s : Sea
           own = ap (λ (t : Turn). t.txn) here ∙ same;
         }
 
-pub end_fits : (setting : Setting) (txns : List ℕ) (board : BoardView) (txn : ℕ) → IsFirst setting txns board txn → IsFit setting txns (end_of txn)
+pub end_fits : (setting : Setting) (txns : List ℕ) (board : BoardView) (txn : ℕ) → IsFirst setting txns board txn →
+    IsFit setting txns (end_of txn)
 end_fits setting txns board txn first = record { number = first.number; deed = tt }
 
 pub ends_is : (setting : Setting) (txns : List ℕ) (events : List Event) (board : BoardView) (txn : ℕ) → IsFirst setting txns board txn →
@@ -274,7 +295,8 @@ ends_is setting txns events board txn first =
     ap (λ (o : Option Turn). ends_first setting txns o (game_on events board)) first.found
     ∙ ap (λ (n : ℕ). added setting (end_of n) (turn_on setting txn board) (game_on events board)) first.own
 
-pub sweeps_is : (setting : Setting) (txns : List ℕ) (events : List Event) (board : BoardView) → find is_ready (turns_of board.seats) ≡ None →
+pub sweeps_is : (setting : Setting) (txns : List ℕ) (events : List Event) (board : BoardView) →
+    find is_ready (turns_of board.seats) ≡ None →
     ends_first setting txns (find is_ready (turns_of board.seats)) (game_on events board) ≡ swept setting txns (game_on events board)
 sweeps_is setting txns events board none = ap (λ (o : Option Turn). ends_first setting txns o (game_on events board)) none
 
@@ -285,7 +307,8 @@ order_ends setting txns events board stands = by_found (find (λ (s : Seat). is_
     game : Game
     game = game_on events board
 
-    by_found : (o : Option Seat) → find (λ (s : Seat). is_ready s.turn) board.seats ≡ o → IsInOrder setting txns (ends_first setting txns (find is_ready (turns_of board.seats)) game)
+    by_found : (o : Option Seat) → find (λ (s : Seat). is_ready s.turn) board.seats ≡ o →
+        IsInOrder setting txns (ends_first setting txns (find is_ready (turns_of board.seats)) game)
     by_found None e =
         subst (IsInOrder setting txns) (sym (sweeps_is setting txns events board (none_ready board.seats (ap (option_map (λ (s : Seat). s.turn.txn)) e)))) (order_swept setting txns game stands.order)
     by_found (Some s) e =
@@ -293,7 +316,8 @@ order_ends setting txns events board stands = by_found (find (λ (s : Seat). is_
         subst (IsInOrder setting txns) (sym (ends_is setting txns events board s.turn.txn first))
         (order_added setting txns events board (end_of s.turn.txn) stands (end_fits setting txns board s.turn.txn first))
 
-pub ends_room : (setting : Setting) (txns : List ℕ) (events : List Event) (board : BoardView) → IsBoard setting txns events board → HasRoom setting txns (ends_one setting txns (game_on events board)) →
+pub ends_room : (setting : Setting) (txns : List ℕ) (events : List Event) (board : BoardView) → IsBoard setting txns events board →
+    HasRoom setting txns (ends_one setting txns (game_on events board)) →
     HasRoom setting txns (ends_first setting txns (find is_ready (turns_of board.seats)) (game_on events board))
 ends_room setting txns events board stands room =
     room_rounds setting txns txns (ends_first setting txns (find is_ready (turns_of board.seats)) (game_on events board)) (order_ends setting txns events board stands) room

@@ -36,7 +36,8 @@ absent_from : (txn : ℕ) (ws : List Wish) → registered_wish txn ws ≡ None �
 absent_from txn [] none = refl
 absent_from txn (w ∷ ws) none = by_test (w.txn == txn) none (absent_from txn ws)
   where
-    by_test : (b : Bool) → (if b then Some w else registered_wish txn ws) ≡ None → (registered_wish txn ws ≡ None → is_registered txn ws ≡ false) → (b || is_registered txn ws) ≡ false
+    by_test : (b : Bool) → (if b then Some w else registered_wish txn ws) ≡ None →
+        (registered_wish txn ws ≡ None → is_registered txn ws ≡ false) → (b || is_registered txn ws) ≡ false
     by_test true h rest = absurd cc
     by_test false h rest = rest h
 
@@ -44,24 +45,28 @@ there_in : (txn : ℕ) (wish : Wish) (ws : List Wish) → registered_wish txn ws
 there_in txn wish [] some = absurd cc
 there_in txn wish (w ∷ ws) some = by_test (w.txn == txn) some (there_in txn wish ws)
   where
-    by_test : (b : Bool) → (if b then Some w else registered_wish txn ws) ≡ Some wish → (registered_wish txn ws ≡ Some wish → is_registered txn ws ≡ true) → (b || is_registered txn ws) ≡ true
+    by_test : (b : Bool) → (if b then Some w else registered_wish txn ws) ≡ Some wish →
+        (registered_wish txn ws ≡ Some wish → is_registered txn ws ≡ true) → (b || is_registered txn ws) ≡ true
     by_test true h rest = refl
     by_test false h rest = rest h
 
-wish_on : (setting : Setting) (txns : List ℕ) (txn : ℕ) (events : List Event) (board : BoardView) (registry : List Wish) → IsBoard setting txns events board → is_in txn txns ≡ true → registry ≡ board.registry →
+wish_on : (setting : Setting) (txns : List ℕ) (txn : ℕ) (events : List Event) (board : BoardView) (registry : List Wish) →
+    IsBoard setting txns events board → is_in txn txns ≡ true → registry ≡ board.registry →
     registered_wish txn registry ≡ wish_of (turn_on setting txn board)
 wish_on setting txns txn events board registry stands number same =
     ap (registered_wish txn) (same ∙ stands.waiting)
     ∙ wish_there setting txn (turns_of board.seats) (subst (IsStrictlySortedBy nat_cmp) (sym stands.order.numbers) stands.order.sorted) (ap (is_in txn) stands.order.numbers ∙ number)
 
-pub not_registered : (setting : Setting) (txns : List ℕ) (txn : ℕ) (events : List Event) (board : BoardView) (wish : Wish) (registry : List Wish) → IsBoard setting txns events board → is_in txn txns ≡ true →
+pub not_registered : (setting : Setting) (txns : List ℕ) (txn : ℕ) (events : List Event) (board : BoardView) (wish : Wish) (registry : List Wish) →
+    IsBoard setting txns events board → is_in txn txns ≡ true →
     registry ≡ board.registry → (turn_on setting txn board).waits ≡ false → wish.txn ≡ txn → is_registered wish.txn registry ≡ false
 not_registered setting txns txn events board wish registry stands number same quiet own =
     let turn = turn_on setting txn board in
     ap (λ (n : ℕ). is_registered n registry) own
     ∙ absent_from txn registry (wish_on setting txns txn events board registry stands number same ∙ on_false turn.waits (next_wish turn.txn turn.lines) None quiet)
 
-pub registered_is : (setting : Setting) (txns : List ℕ) (txn : ℕ) (events : List Event) (board : BoardView) (wish : Wish) (registry : List Wish) → IsBoard setting txns events board → is_in txn txns ≡ true →
+pub registered_is : (setting : Setting) (txns : List ℕ) (txn : ℕ) (events : List Event) (board : BoardView) (wish : Wish) (registry : List Wish) →
+    IsBoard setting txns events board → is_in txn txns ≡ true →
     registry ≡ board.registry → (turn_on setting txn board).waits ≡ true → next_wish (turn_on setting txn board).txn (turn_on setting txn board).lines ≡ Some wish → registered_wish txn registry ≡ Some wish
 registered_is setting txns txn events board wish registry stands number same held is =
     let turn = turn_on setting txn board in
@@ -76,7 +81,8 @@ both : (a b : Bool) → a ≡ true → b ≡ true → (a && b) ≡ true
 both true b e f = f
 both false b e f = absurd (let k : false ≡ true = e in cc)
 
-pub may_be_asked : (setting : Setting) (txn : ℕ) (wish : Wish) (lines : List Line) → AllByRecursion (IsFitLine setting txn) lines → 1 ≤ txn → next_wish txn lines ≡ Some wish → may_ask setting.plan.trees wish ≡ true
+pub may_be_asked : (setting : Setting) (txn : ℕ) (wish : Wish) (lines : List Line) → AllByRecursion (IsFitLine setting txn) lines →
+    1 ≤ txn → next_wish txn lines ≡ Some wish → may_ask setting.plan.trees wish ≡ true
 may_be_asked setting txn wish lines fits some is =
     let at = has_lock txn wish lines is in
     let tree = lock_fits setting txn wish at.line at.rest lines at.next at.lock fits in
@@ -84,19 +90,23 @@ may_be_asked setting txn wish lines fits some is =
     let one : 0 < wish.txn = omega (arith, some, own) in
     both (nat_lt 0 wish.txn) (nat_lt wish.tree setting.plan.trees) (grind (arith, nat_tests)) (grind (arith, nat_tests))
 
-may_all : (setting : Setting) (turns : List Turn) → AllByRecursion (IsSteady setting) turns → AllByRecursion (λ n. 1 ≤ n) (map (λ t. t.txn) turns) → list_all (may_ask setting.plan.trees) (wishes_in turns) ≡ true
+may_all : (setting : Setting) (turns : List Turn) → AllByRecursion (IsSteady setting) turns →
+    AllByRecursion (λ n. 1 ≤ n) (map (λ t. t.txn) turns) → list_all (may_ask setting.plan.trees) (wishes_in turns) ≡ true
 may_all setting [] steady some = refl
 may_all setting (t ∷ ts) steady some = by_wish (wish_of t) refl (may_all setting ts steady.1 some.1)
   where
-    of_turn : (w : Wish) (b : Bool) → t.waits ≡ b → (if b then next_wish t.txn t.lines else None) ≡ Some w → next_wish t.txn t.lines ≡ Some w
+    of_turn : (w : Wish) (b : Bool) → t.waits ≡ b → (if b then next_wish t.txn t.lines else None) ≡ Some w →
+        next_wish t.txn t.lines ≡ Some w
     of_turn w true e h = h
     of_turn w false e h = absurd cc
 
-    by_wish : (o : Option Wish) → wish_of t ≡ o → list_all (may_ask setting.plan.trees) (wishes_in ts) ≡ true → list_all (may_ask setting.plan.trees) (cons_option o (wishes_in ts)) ≡ true
+    by_wish : (o : Option Wish) → wish_of t ≡ o → list_all (may_ask setting.plan.trees) (wishes_in ts) ≡ true →
+        list_all (may_ask setting.plan.trees) (cons_option o (wishes_in ts)) ≡ true
     by_wish None is rest = rest
     by_wish (Some w) is rest = both (may_ask setting.plan.trees w) _ (may_be_asked setting t.txn w t.lines steady.0.lines some.0 (of_turn w t.waits refl is)) rest
 
-pub may_on : (setting : Setting) (txns : List ℕ) (events : List Event) (board : BoardView) (registry : List Wish) → IsBoard setting txns events board → registry ≡ board.registry → MayAsk setting.plan.trees registry
+pub may_on : (setting : Setting) (txns : List ℕ) (events : List Event) (board : BoardView) (registry : List Wish) →
+    IsBoard setting txns events board → registry ≡ board.registry → MayAsk setting.plan.trees registry
 may_on setting txns events board registry stands same =
     ap (list_all (may_ask setting.plan.trees)) (same ∙ stands.waiting)
     ∙ may_all setting (turns_of board.seats) stands.order.steady (subst (AllByRecursion (λ n. 1 ≤ n)) (sym stands.order.numbers) stands.numbered)

@@ -30,7 +30,8 @@ use Rattle.lt_runner.proofs.AttemptLaws.{seat_at}
 use Rattle.lt_runner.proofs.ChoiceLaws.{on_true}
 
 -- the only pass made each call
-calls_all : (setting : Setting) (place : ℕ) (trees : List TreeState) (events : List Event) → setting.plan.passes ≡ 1 → IsLegalFrom setting trees events → calls_from place 0 events ≡ all_receipts place events
+calls_all : (setting : Setting) (place : ℕ) (trees : List TreeState) (events : List Event) → setting.plan.passes ≡ 1 →
+    IsLegalFrom setting trees events → calls_from place 0 events ≡ all_receipts place events
 calls_all setting place trees [] one legal = refl
 calls_all setting place trees (e ∷ es) one legal =
     let own : (e.pass == 0) ≡ true = let low = legal.0.pass in grind (arith, nat_tests) in
@@ -42,11 +43,13 @@ last_of_one f [] x y e = cc
 last_of_one f (z ∷ zs) x y e = absurd (omega (arith, ap length e, length-map (zs ++ x ∷ []) f, length-append zs (x ∷ [])))
 
 -- a turn that has ended has an outcome
-pub numbers_ended : (turns : List Turn) → AllByRecursion (λ t. IsOver (seat_at t)) turns → map (λ (ended : Ended). ended.txn) (filter_map ended_in turns) ≡ map (λ t. t.txn) turns
+pub numbers_ended : (turns : List Turn) → AllByRecursion (λ t. IsOver (seat_at t)) turns →
+    map (λ (ended : Ended). ended.txn) (filter_map ended_in turns) ≡ map (λ t. t.txn) turns
 numbers_ended [] all = refl
 numbers_ended (t ∷ ts) all = by_outcome t.outcome all.0.0 (numbers_ended ts all.1)
   where
-    by_outcome : (outcome : Option Outcome) → is_some outcome ≡ true → map (λ (ended : Ended). ended.txn) (filter_map ended_in ts) ≡ map (λ t. t.txn) ts →
+    by_outcome : (outcome : Option Outcome) → is_some outcome ≡ true →
+        map (λ (ended : Ended). ended.txn) (filter_map ended_in ts) ≡ map (λ t. t.txn) ts →
         map (λ (ended : Ended). ended.txn) (cons_option (option_map (λ (o : Outcome). record { txn = t.txn; outcome = o }) outcome) (filter_map ended_in ts)) ≡ t.txn ∷ map (λ u. u.txn) ts
     by_outcome None e rest = cc
     by_outcome (Some outcome) e rest = ap (λ ns. t.txn ∷ ns) rest
@@ -54,12 +57,14 @@ numbers_ended (t ∷ ts) all = by_outcome t.outcome all.0.0 (numbers_ended ts al
 -- What the closed table tells.
 
 -- the history of the only pass
-pub only_front : {P : Type 0} (view : P → PassView) (passes : List P) (new : P) (count : ℕ) → map view passes ≡ opening_passes count → count ≡ 1 → front_of_first (map view (slice_set passes 0 new)) ≡ (view new).front
+pub only_front : {P : Type 0} (view : P → PassView) (passes : List P) (new : P) (count : ℕ) → map view passes ≡ opening_passes count →
+    count ≡ 1 → front_of_first (map view (slice_set passes 0 new)) ≡ (view new).front
 only_front view [] new count is one = let e : [] ≡ opening_passes 1 = is ∙ ap opening_passes one in cc
 only_front view (p ∷ ps) new count is one = refl
 
 -- its receipts are all
-pub receipts_are : (setting : Setting) (events : List Event) (passes : List PassView) (closed : Closed) (front : List (Vec Receipt)) (receipts : Vec Receipt) → setting.plan.passes ≡ 1 → IsLegal setting events → IsRest setting events passes closed →
+pub receipts_are : (setting : Setting) (events : List Event) (passes : List PassView) (closed : Closed) (front : List (Vec Receipt)) (receipts : Vec Receipt) →
+    setting.plan.passes ≡ 1 → IsLegal setting events → IsRest setting events passes closed →
     closed.lists.items ≡ front ++ receipts ∷ [] → receipts.items ≡ all_receipts setting.plan.first events
 receipts_are setting events passes closed front receipts one legal rest is =
     let lists : map (λ (v : Vec Receipt). v.items) (front ++ receipts ∷ []) ≡ calls_from setting.plan.first 0 events ∷ [] =
@@ -96,13 +101,15 @@ tells trace first setting events turns released passes closed outcomes front rec
 pub record IsClosing (trace : TraceView) (first : ℕ) (events : List Event) (board : BoardView) : Type 0 where
   pub game_is : game_on events board ≡ game_of trace first
 
-pub closing : (trace : TraceView) (first : ℕ) (setting : Setting) (txns : List ℕ) (lines : List Line) (events : List Event) (board : BoardView) → setting ≡ setting_of trace 1 first → lines ≡ trace.lines →
+pub closing : (trace : TraceView) (first : ℕ) (setting : Setting) (txns : List ℕ) (lines : List Line) (events : List Event) (board : BoardView) →
+    setting ≡ setting_of trace 1 first → lines ≡ trace.lines →
     Shows setting (txns_of lines) events board (played setting (txns_of lines) lines) → IsClosing trace first events board
 closing trace first setting txns lines events board same all shows =
     record { game_is = shows.game_is ∙ ap (λ (s : Setting). played s (txns_of lines) lines) same ∙ ap (λ (ls : List Line). played (setting_of trace 1 first) (txns_of ls) ls) all }
 
 -- each of them has ended
-pub numbers_told : (trace : TraceView) (first : ℕ) (events : List Event) (board : BoardView) (outcomes : Vec Ended) → IsTrace trace → IsClosing trace first events board →
+pub numbers_told : (trace : TraceView) (first : ℕ) (events : List Event) (board : BoardView) (outcomes : Vec Ended) → IsTrace trace →
+    IsClosing trace first events board →
     outcomes.items ≡ filter_map (λ seat. ended_in seat.turn) board.seats → map (λ (ended : Ended). ended.txn) outcomes.items ≡ txns_of trace.lines
 numbers_told trace first events board outcomes is_trace at ends =
     let out = played_out trace first (fit_of_trace trace first is_trace) in
@@ -110,7 +117,8 @@ numbers_told trace first events board outcomes is_trace at ends =
     ∙ numbers_ended (game_of trace first).turns out.over ∙ out.numbers_are
 
 -- and there are few events
-pub few_told : (trace : TraceView) (first places : ℕ) (events : List Event) (board : BoardView) → IsTrace trace → IsClosing trace first events board → places ≡ length events → places ≤ most_events trace
+pub few_told : (trace : TraceView) (first places : ℕ) (events : List Event) (board : BoardView) → IsTrace trace →
+    IsClosing trace first events board → places ≡ length events → places ≤ most_events trace
 few_told trace first places events board is_trace at same =
     let few = few_events trace first (fit_of_trace trace first is_trace) in
     omega (arith, few, same, ap (λ (g : Game). length g.events) at.game_is)

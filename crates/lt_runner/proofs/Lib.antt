@@ -37,7 +37,6 @@ pub mod WholeLaws
 pub mod OrderLaws
 pub mod HeadlineLaws
 pub mod NothingLaws
-pub mod AskedLaws
 pub mod ListLaws
 pub mod AnswerLaws
 pub mod PlaysOnLaws
@@ -56,6 +55,7 @@ pub mod RoomLaws
 pub mod OnLaws
 pub mod SweepingLaws
 pub mod SeatMoveLaws
+pub mod ReleaseMoveLaws
 pub mod LockMoveLaws
 pub mod AskLaws
 pub mod AddedLaws

@@ -43,13 +43,16 @@ pub record IsLocking (setting : Setting) (txns : List ℕ) (txn : ℕ) (events :
   pub lock : line.deed ≡ Lock wish.tree wish.range
   pub own : wish.txn ≡ txn
 
-sorted_on : (setting : Setting) (txns : List ℕ) (events : List Event) (board : BoardView) → IsBoard setting txns events board → IsStrictlySortedBy nat_cmp (numbers_on board)
+sorted_on : (setting : Setting) (txns : List ℕ) (events : List Event) (board : BoardView) → IsBoard setting txns events board →
+    IsStrictlySortedBy nat_cmp (numbers_on board)
 sorted_on setting txns events board stands = subst (IsStrictlySortedBy nat_cmp) (sym stands.order.numbers) stands.order.sorted
 
-pub txn_is : (setting : Setting) (txns : List ℕ) (txn : ℕ) (events : List Event) (board : BoardView) → IsBoard setting txns events board → is_in txn txns ≡ true → (turn_on setting txn board).txn ≡ txn
+pub txn_is : (setting : Setting) (txns : List ℕ) (txn : ℕ) (events : List Event) (board : BoardView) → IsBoard setting txns events board →
+    is_in txn txns ≡ true → (turn_on setting txn board).txn ≡ txn
 txn_is setting txns txn events board stands number = turn_of_txn setting txn (turns_of board.seats) (ap (is_in txn) stands.order.numbers ∙ number)
 
-pub steady_on : (setting : Setting) (txns : List ℕ) (txn : ℕ) (events : List Event) (board : BoardView) → IsBoard setting txns events board → is_in txn txns ≡ true → IsSteady setting (turn_on setting txn board)
+pub steady_on : (setting : Setting) (txns : List ℕ) (txn : ℕ) (events : List Event) (board : BoardView) →
+    IsBoard setting txns events board → is_in txn txns ≡ true → IsSteady setting (turn_on setting txn board)
 steady_on setting txns txn events board stands number =
     turn_has (IsSteady setting) setting txns (game_on events board) (turn_on setting txn board) (the_turn setting txns txn (game_on events board) number stands.order) stands.order.steady
 
@@ -75,7 +78,8 @@ has_lock txn wish (line ∷ lines) e = by_deed line.deed refl e
     by_deed (Escalate tree) is h = absurd cc
     by_deed Big is h = absurd cc
 
-pub locking : (setting : Setting) (txns : List ℕ) (txn : ℕ) (events : List Event) (board : BoardView) (wish : Wish) → IsBoard setting txns events board → is_in txn txns ≡ true →
+pub locking : (setting : Setting) (txns : List ℕ) (txn : ℕ) (events : List Event) (board : BoardView) (wish : Wish) →
+    IsBoard setting txns events board → is_in txn txns ≡ true →
     is_some (turn_on setting txn board).outcome ≡ false → (at : HasLock (turn_on setting txn board).txn wish (turn_on setting txn board).lines) →
     IsLocking setting txns txn events board wish at.line at.rest
 locking setting txns txn events board wish stands number goes at = record {
@@ -87,7 +91,8 @@ locking setting txns txn events board wish stands number goes at = record {
   own = at.own ∙ txn_is setting txns txn events board stands number;
 }
 
-pub wish_is : (setting : Setting) (txns : List ℕ) (txn : ℕ) (events : List Event) (board : BoardView) (wish : Wish) (line : Line) (lines : List Line) → IsLocking setting txns txn events board wish line lines →
+pub wish_is : (setting : Setting) (txns : List ℕ) (txn : ℕ) (events : List Event) (board : BoardView) (wish : Wish) (line : Line) (lines : List Line) →
+    IsLocking setting txns txn events board wish line lines →
     next_wish (turn_on setting txn board).txn (turn_on setting txn board).lines ≡ Some wish
 wish_is setting txns txn events board wish line lines at =
     let turn = turn_on setting txn board in
@@ -147,12 +152,14 @@ IsLeftSo turns turn (Err fault) left = left ≡ wishes_in turns
 no_wish : (turn : Turn) → turn.waits ≡ false → wish_of turn ≡ None
 no_wish turn quiet = on_false turn.waits (next_wish turn.txn turn.lines) None quiet
 
-quiet_granted : (turn : Turn) (wish : Wish) (line : Line) (rest : List Line) (buffered : Bool) → turn.lines ≡ line ∷ rest → line.deed ≡ Lock wish.tree wish.range → (granted_at turn buffered).waits ≡ false
+quiet_granted : (turn : Turn) (wish : Wish) (line : Line) (rest : List Line) (buffered : Bool) → turn.lines ≡ line ∷ rest →
+    line.deed ≡ Lock wish.tree wish.range → (granted_at turn buffered).waits ≡ false
 quiet_granted turn wish line rest buffered next lock =
     subst (λ (ls : List Line). (granted_at (record turn { lines = ls }) buffered).waits ≡ false) (sym next)
     (subst (λ (d : LineDeed). (granted_at (record turn { lines = record line { deed = d } ∷ rest }) buffered).waits ≡ false) (sym lock) refl)
 
-pub own_turn : (setting : Setting) (txns : List ℕ) (txn : ℕ) (events : List Event) (board : BoardView) → IsBoard setting txns events board → is_in txn txns ≡ true →
+pub own_turn : (setting : Setting) (txns : List ℕ) (txn : ℕ) (events : List Event) (board : BoardView) → IsBoard setting txns events board →
+    is_in txn txns ≡ true →
     turn_of setting (turn_on setting txn board).txn (turns_of board.seats) ≡ turn_on setting txn board
 own_turn setting txns txn events board stands number = (the_turn setting txns txn (game_on events board) number stands.order).there
 
@@ -180,7 +187,8 @@ left_start setting txns txn events board wish line lines bar registry old new le
         (ap (is_in turn.txn) at.stands.order.numbers ∙ (the_turn setting txns txn (game_on events board) at.number at.stands.order).number)
         (wish_is setting txns txn events board wish line lines at) (ap (λ (t : Turn). t.waits) (own_turn setting txns txn events board at.stands at.number) ∙ quiet))
 
-    by_answer : (r : Result Started Fault) → IsStarted setting bar wish registry (with_wish wish registry) registry old new left r → IsLeftSo turns turn r left
+    by_answer : (r : Result Started Fault) → IsStarted setting bar wish registry (with_wish wish registry) registry old new left r →
+        IsLeftSo turns turn r left
     by_answer (Ok (StartedGranted place buffered)) h = λ t own none. h.1 ∙ stays t own none
     by_answer (Ok (Waits owners)) h = h.1 ∙ comes
     by_answer (Ok (Deadlock walk)) h = λ t own none. h.1 ∙ stays t own none
@@ -208,7 +216,8 @@ left_retry setting txns txn events board wish line lines bar registry old new le
         same ∙ at.stands.waiting ∙ sym (wishes_stay setting (record turn { waits = true }) turns (sorted_on setting txns events board at.stands)
         (ap wish_of (own_turn setting txns txn events board at.stands at.number) ∙ on_true turn.waits (next_wish turn.txn turn.lines) None held))
 
-    by_answer : (r : Result Started Fault) → IsStarted setting bar wish (without txn registry) registry registry old new left r → IsLeftSo turns turn r left
+    by_answer : (r : Result Started Fault) → IsStarted setting bar wish (without txn registry) registry registry old new left r →
+        IsLeftSo turns turn r left
     by_answer (Ok (StartedGranted place buffered)) h = λ t own none. h.1 ∙ leaves t own none
     by_answer (Ok (Waits owners)) h = h.1 ∙ stays
     by_answer (Ok (Deadlock walk)) h = λ t own none. h.1 ∙ leaves t own none
@@ -256,14 +265,16 @@ answer_shows setting txns txn events new_events board mid new wish line lines le
     new_is : new ≡ board_put board here.place (seat_so turn started) (registry_so txn left started) board.released
     new_is = λ j. record { seats = here.seats setting j; registry = here.registry j; released = here.released j }
 
-    shown : (seat : Seat) (registry : List Wish) → IsLockMove setting turns turn wish events new_events seat.turn → IsCalm seat → registry ≡ wishes_in (with_turn seat.turn turns) →
+    shown : (seat : Seat) (registry : List Wish) → IsLockMove setting turns turn wish events new_events seat.turn → IsCalm seat →
+        registry ≡ wishes_in (with_turn seat.turn turns) →
         Shows setting txns new_events (board_put board here.place seat registry board.released) (moved setting txn (game_on events board))
     shown seat registry move calm waiting = lock_shows setting txns txn events new_events board wish line lines here.place seat registry at here.inside here.number move calm waiting
 
     own : (t : Turn) → IsLockMove setting turns turn wish events new_events t → t.txn ≡ turn.txn
     own t move = ap (λ (u : Turn). u.txn) move.turn_is ∙ after_txn turn move.move
 
-    by_answer : (r : Result Started Fault) → IsStartedAtOnce setting turns turn wish events new_events r → IsLeftSo turns turn r left → IsAnswered r →
+    by_answer : (r : Result Started Fault) → IsStartedAtOnce setting turns turn wish events new_events r → IsLeftSo turns turn r left →
+        IsAnswered r →
         Shows setting txns new_events (board_put board here.place (seat_so turn r) (registry_so txn left r) board.released) (moved setting txn (game_on events board))
     by_answer (Ok (StartedGranted place buffered)) move is has =
         let quiet = quiet_granted turn wish line lines buffered at.next at.lock in
@@ -281,23 +292,27 @@ answer_shows setting txns txn events new_events board mid new wish line lines le
 
 -- What is asked of the answer.
 
-turn_any : (s r : Setting) (txn : ℕ) (turns : List Turn) → is_in txn (map (λ t. t.txn) turns) ≡ true → turn_of s txn turns ≡ turn_of r txn turns
+turn_any : (s r : Setting) (txn : ℕ) (turns : List Turn) → is_in txn (map (λ t. t.txn) turns) ≡ true →
+    turn_of s txn turns ≡ turn_of r txn turns
 turn_any s r txn [] there = absurd (let k : false ≡ true = there in cc)
 turn_any s r txn (t ∷ ts) there = by_test (t.txn == txn) there (turn_any s r txn ts)
   where
-    by_test : (b : Bool) → (b || is_in txn (map (λ t. t.txn) ts)) ≡ true → (is_in txn (map (λ t. t.txn) ts) ≡ true → turn_of s txn ts ≡ turn_of r txn ts) →
+    by_test : (b : Bool) → (b || is_in txn (map (λ t. t.txn) ts)) ≡ true →
+        (is_in txn (map (λ t. t.txn) ts) ≡ true → turn_of s txn ts ≡ turn_of r txn ts) →
         (if b then t else turn_of s txn ts) ≡ (if b then t else turn_of r txn ts)
     by_test true h rest = refl
     by_test false h rest = rest h
 
-has_answer : (setting : Setting) (turns : List Turn) (turn : Turn) (wish : Wish) (events new_events : List Event) (started : Result Started Fault) → IsStartedAtOnce setting turns turn wish events new_events started → HasAnswer started
+has_answer : (setting : Setting) (turns : List Turn) (turn : Turn) (wish : Wish) (events new_events : List Event) (started : Result Started Fault) →
+    IsStartedAtOnce setting turns turn wish events new_events started → HasAnswer started
 has_answer setting turns turn wish events new_events (Ok started) made = tt
 has_answer setting turns turn wish events new_events (Err OutOfMemory) made = tt
 has_answer setting turns turn wish events new_events (Err (Busy row holder)) made = made
 has_answer setting turns turn wish events new_events (Err (HistoryFull place)) made = made
 has_answer setting turns turn wish events new_events (Err (OutOfLocks place rows)) made = tt
 
-pub lock_fits : (setting : Setting) (txn : ℕ) (wish : Wish) (line : Line) (lines all : List Line) → all ≡ line ∷ lines → line.deed ≡ Lock wish.tree wish.range → AllByRecursion (IsFitLine setting txn) all → wish.tree < setting.plan.trees
+pub lock_fits : (setting : Setting) (txn : ℕ) (wish : Wish) (line : Line) (lines all : List Line) → all ≡ line ∷ lines →
+    line.deed ≡ Lock wish.tree wish.range → AllByRecursion (IsFitLine setting txn) all → wish.tree < setting.plan.trees
 lock_fits setting txn wish line lines all next lock fits =
     let first : AllByRecursion (IsFitLine setting txn) (line ∷ lines) = subst (AllByRecursion (IsFitLine setting txn)) next fits in
     let deed : IsFitDeed setting (Lock wish.tree wish.range) = subst (IsFitDeed setting) lock first.0.deed in deed.0

@@ -19,29 +19,35 @@ use Rattle.lt_runner.proofs.RoomLaws.{room_settles, room_on, room_rounds, order_
 
 -- A board of these transactions is one of its own.
 
-pub own_board : (setting : Setting) (txns : List ℕ) (events : List Event) (board : BoardView) → IsBoard setting txns events board → IsBoard setting (numbers_on board) events board
+pub own_board : (setting : Setting) (txns : List ℕ) (events : List Event) (board : BoardView) → IsBoard setting txns events board →
+    IsBoard setting (numbers_on board) events board
 own_board setting txns events board stands = subst (λ (ns : List ℕ). IsBoard setting ns events board) (sym stands.order.numbers) stands
 
-pub is_on : (setting : Setting) (txns : List ℕ) (txn : ℕ) (events : List Event) (board : BoardView) → is_in txn txns ≡ true → IsBoard setting txns events board → IsOn txn board
+pub is_on : (setting : Setting) (txns : List ℕ) (txn : ℕ) (events : List Event) (board : BoardView) → is_in txn txns ≡ true →
+    IsBoard setting txns events board → IsOn txn board
 is_on setting txns txn events board number stands = record {
   sorted = subst (IsStrictlySortedBy nat_cmp) (sym stands.order.numbers) stands.order.sorted;
   number = ap (is_in txn) stands.order.numbers ∙ number;
 }
 
 -- what a call has shown of the board's own transactions, of these
-pub shows_of : (setting : Setting) (txns : List ℕ) (events new_events : List Event) (board new_board : BoardView) (game : Game) → IsBoard setting txns events board →
+pub shows_of : (setting : Setting) (txns : List ℕ) (events new_events : List Event) (board new_board : BoardView) (game : Game) →
+    IsBoard setting txns events board →
     Shows setting (numbers_on board) new_events new_board game → Shows setting txns new_events new_board game
 shows_of setting txns events new_events board new_board game stands shows =
     subst (λ (ns : List ℕ). Shows setting ns new_events new_board game) stands.order.numbers shows
 
-pub room_own : (setting : Setting) (txns : List ℕ) (events : List Event) (board : BoardView) (game : Game) → IsBoard setting txns events board → HasRoom setting txns game → HasRoom setting (numbers_on board) game
+pub room_own : (setting : Setting) (txns : List ℕ) (events : List Event) (board : BoardView) (game : Game) →
+    IsBoard setting txns events board → HasRoom setting txns game → HasRoom setting (numbers_on board) game
 room_own setting txns events board game stands room = subst (λ (ns : List ℕ). HasRoom setting ns game) (sym stands.order.numbers) room
 
-pub shows_itself : (setting : Setting) (txns : List ℕ) (events : List Event) (board : BoardView) → IsBoard setting txns events board → Shows setting txns events board (game_on events board)
+pub shows_itself : (setting : Setting) (txns : List ℕ) (events : List Event) (board : BoardView) → IsBoard setting txns events board →
+    Shows setting txns events board (game_on events board)
 shows_itself setting txns events board stands = record { stands = stands; game_is = refl }
 
 -- and on from there
-pub shows_then : (setting : Setting) (txns : List ℕ) (events : List Event) (board : BoardView) (game last : Game) → Shows setting txns events board game → game ≡ last → Shows setting txns events board last
+pub shows_then : (setting : Setting) (txns : List ℕ) (events : List Event) (board : BoardView) (game last : Game) →
+    Shows setting txns events board game → game ≡ last → Shows setting txns events board last
 shows_then setting txns events board game last shows same = record { stands = shows.stands; game_is = shows.game_is ∙ same }
 
 -- One line and its release.
@@ -50,22 +56,26 @@ pub next_is : (setting : Setting) (txn : ℕ) (game : Game) → (turn_of setting
     plays_next setting txn game ≡ settles setting (turn_of setting txn (moved setting txn game).turns) (moved setting txn game)
 next_is setting txn game some = by_lines (turn_of setting txn game.turns).lines some
   where
-    by_lines : (lines : List Line) → lines ≢ [] → plays_line setting txn lines game ≡ settles setting (turn_of setting txn (moved_at setting txn lines game).turns) (moved_at setting txn lines game)
+    by_lines : (lines : List Line) → lines ≢ [] →
+        plays_line setting txn lines game ≡ settles setting (turn_of setting txn (moved_at setting txn lines game).turns) (moved_at setting txn lines game)
     by_lines [] none = absurd (none refl)
     by_lines (line ∷ lines) none = refl
 
-pub order_moved : (setting : Setting) (txns : List ℕ) (txn : ℕ) (game : Game) → is_in txn txns ≡ true → is_some (turn_of setting txn game.turns).outcome ≡ false →
+pub order_moved : (setting : Setting) (txns : List ℕ) (txn : ℕ) (game : Game) → is_in txn txns ≡ true →
+    is_some (turn_of setting txn game.turns).outcome ≡ false →
     IsInOrder setting txns game → IsInOrder setting txns (moved setting txn game)
 order_moved setting txns txn game number goes order = by_lines (turn_of setting txn game.turns).lines refl
   where
-    by_lines : (lines : List Line) → (turn_of setting txn game.turns).lines ≡ lines → IsInOrder setting txns (moved_at setting txn lines game)
+    by_lines : (lines : List Line) → (turn_of setting txn game.turns).lines ≡ lines →
+        IsInOrder setting txns (moved_at setting txn lines game)
     by_lines [] same = order
     by_lines (line ∷ lines) same =
         (holds_plays setting txns AnyOne (λ g. Unit {0}) game (turn_of setting txn game.turns) line lines (keeps_nothing setting txns)
         (record { of_game = the_turn setting txns txn game number order; goes = goes; next = same }) tt tt).order
 
 -- there is room for the line, where there is for its release
-pub room_moved : (setting : Setting) (txns : List ℕ) (txn : ℕ) (events : List Event) (board : BoardView) → IsBoard setting txns events board → is_in txn txns ≡ true → GoesOn setting txn board →
+pub room_moved : (setting : Setting) (txns : List ℕ) (txn : ℕ) (events : List Event) (board : BoardView) →
+    IsBoard setting txns events board → is_in txn txns ≡ true → GoesOn setting txn board →
     HasRoom setting txns (plays_next setting txn (game_on events board)) → HasRoom setting txns (moved setting txn (game_on events board))
 room_moved setting txns txn events board stands number goes room =
     let game = game_on events board in
@@ -80,18 +90,21 @@ pub record PlayingOn (setting : Setting) (txns : List ℕ) (txn : ℕ) (events :
   pub stands : IsBoard setting txns events board
   pub onward : plays_on setting txn left (game_on events board) ≡ whole
 
-no_more : (setting : Setting) (txn : ℕ) (lines : List Line) (game : Game) → (turn_of setting txn game.turns).lines ≡ [] → plays_on setting txn lines game ≡ game
+no_more : (setting : Setting) (txn : ℕ) (lines : List Line) (game : Game) → (turn_of setting txn game.turns).lines ≡ [] →
+    plays_on setting txn lines game ≡ game
 no_more setting txn [] game none = refl
 no_more setting txn (line ∷ lines) game none = by_test (is_ready (turn_of setting txn game.turns)) (no_more setting txn lines game none)
   where
     still : plays_next setting txn game ≡ game
     still = ap (λ (ls : List Line). plays_line setting txn ls game) none
 
-    by_test : (b : Bool) → plays_on setting txn lines game ≡ game → (if b then plays_on setting txn lines (plays_next setting txn game) else game) ≡ game
+    by_test : (b : Bool) → plays_on setting txn lines game ≡ game →
+        (if b then plays_on setting txn lines (plays_next setting txn game) else game) ≡ game
     by_test true rest = ap (plays_on setting txn lines) still ∙ rest
     by_test false rest = refl
 
-unready : (setting : Setting) (txn : ℕ) (lines : List Line) (game : Game) → is_ready (turn_of setting txn game.turns) ≡ false → plays_on setting txn lines game ≡ game
+unready : (setting : Setting) (txn : ℕ) (lines : List Line) (game : Game) → is_ready (turn_of setting txn game.turns) ≡ false →
+    plays_on setting txn lines game ≡ game
 unready setting txn [] game not_ready = refl
 unready setting txn (line ∷ lines) game not_ready = on_false (is_ready (turn_of setting txn game.turns)) _ game not_ready
 
@@ -115,7 +128,8 @@ pub on_over : (setting : Setting) (txns : List ℕ) (txn : ℕ) (events : List E
 on_over setting txns txn events board whole playing = record { stands = playing.stands; game_is = playing.onward }
 
 -- and plays the next line where it does
-pub onward_at : (setting : Setting) (txn : ℕ) (game whole : Game) (lines : List Line) (i : ℕ) → i < length lines → is_ready (turn_of setting txn game.turns) ≡ true →
+pub onward_at : (setting : Setting) (txn : ℕ) (game whole : Game) (lines : List Line) (i : ℕ) → i < length lines →
+    is_ready (turn_of setting txn game.turns) ≡ true →
     plays_on setting txn (drop i lines) game ≡ whole → plays_on setting txn (drop (i + 1) lines) (plays_next setting txn game) ≡ whole
 onward_at setting txn game whole lines i inside ready goes =
     sym (on_true (is_ready (turn_of setting txn game.turns)) (plays_on setting txn (drop (i + 1) lines) (plays_next setting txn game)) game ready)
@@ -149,7 +163,8 @@ pub record Settling (setting : Setting) (txns : List ℕ) (events : List Event) 
   pub stands : IsBoard setting txns events board
   pub onward : fold (λ game (txn : ℕ). swept_if_released setting txns game) (game_on events board) left ≡ whole
 
-unreleased : (setting : Setting) (txns : List ℕ) (left : List ℕ) (game : Game) → game.released ≡ false → fold (λ game (txn : ℕ). swept_if_released setting txns game) game left ≡ game
+unreleased : (setting : Setting) (txns : List ℕ) (left : List ℕ) (game : Game) → game.released ≡ false →
+    fold (λ game (txn : ℕ). swept_if_released setting txns game) game left ≡ game
 unfolding swept_if_released
 unreleased setting txns [] game none = refl
 unreleased setting txns (txn ∷ left) game none =

@@ -24,10 +24,12 @@ keeps_events setting txns count = record {
   marks = λ game released le. le;
 }
 
-pub begun : (setting : Setting) (txns : List ℕ) (game : Game) → IsInOrder setting txns game → Holds setting txns (Reaches (length game.events)) game
+pub begun : (setting : Setting) (txns : List ℕ) (game : Game) → IsInOrder setting txns game →
+    Holds setting txns (Reaches (length game.events)) game
 begun setting txns game order = record { order = order; is = omega arith }
 
-pub room_before : (setting : Setting) (txns : List ℕ) (a b : Game) → length a.events ≤ length b.events → HasRoom setting txns b → HasRoom setting txns a
+pub room_before : (setting : Setting) (txns : List ℕ) (a b : Game) → length a.events ≤ length b.events → HasRoom setting txns b →
+    HasRoom setting txns a
 room_before setting txns a b le room = record { places = omega (arith, le, room.places) }
 
 -- before a release
@@ -38,7 +40,8 @@ room_settles setting txns txn game number order room =
     room_before setting txns game _ all.is room
 
 -- the first of the lines that are played on
-pub room_on : (setting : Setting) (txns : List ℕ) (txn : ℕ) (lines : List Line) (game : Game) → is_in txn txns ≡ true → IsInOrder setting txns game →
+pub room_on : (setting : Setting) (txns : List ℕ) (txn : ℕ) (lines : List Line) (game : Game) → is_in txn txns ≡ true →
+    IsInOrder setting txns game →
     HasRoom setting txns (plays_on setting txn lines game) → HasRoom setting txns game
 room_on setting txns txn lines game number order room =
     let all = holds_on setting txns AnyOne (Reaches (length game.events)) txn lines game (keeps_of setting txns _ (keeps_events setting txns (length game.events))) tt number (begun setting txns game order) in
@@ -71,7 +74,8 @@ pub order_settles : (setting : Setting) (txns : List ℕ) (txn : ℕ) (game : Ga
 order_settles setting txns txn game number order =
     (holds_settles setting txns AnyOne (Reaches 0) txn game (keeps_of setting txns _ (keeps_events setting txns 0)) tt number (ordered setting txns game order)).order
 
-pub order_next : (setting : Setting) (txns : List ℕ) (txn : ℕ) (game : Game) → is_in txn txns ≡ true → is_some (turn_of setting txn game.turns).outcome ≡ false →
+pub order_next : (setting : Setting) (txns : List ℕ) (txn : ℕ) (game : Game) → is_in txn txns ≡ true →
+    is_some (turn_of setting txn game.turns).outcome ≡ false →
     IsInOrder setting txns game → IsInOrder setting txns (plays_next setting txn game)
 order_next setting txns txn game number goes order =
     (holds_next setting txns AnyOne (Reaches 0) txn game (keeps_of setting txns _ (keeps_events setting txns 0)) tt number (ordered setting txns game order) goes).order
@@ -81,9 +85,11 @@ pub order_retried : (setting : Setting) (txns : List ℕ) (txn : ℕ) (game : Ga
 order_retried setting txns txn game number order =
     (holds_retried setting txns AnyOne (Reaches 0) game txn (keeps_of setting txns _ (keeps_events setting txns 0)) tt number (ordered setting txns game order)).order
 
-pub order_swept_if : (setting : Setting) (txns : List ℕ) (game : Game) → IsInOrder setting txns game → IsInOrder setting txns (swept_if_released setting txns game)
+pub order_swept_if : (setting : Setting) (txns : List ℕ) (game : Game) → IsInOrder setting txns game →
+    IsInOrder setting txns (swept_if_released setting txns game)
 order_swept_if setting txns game order =
     (holds_swept_if setting txns (Reaches 0) game (keeps_events setting txns 0) (ordered setting txns game order)).order
 
-pub order_swept : (setting : Setting) (txns : List ℕ) (game : Game) → IsInOrder setting txns game → IsInOrder setting txns (swept setting txns game)
+pub order_swept : (setting : Setting) (txns : List ℕ) (game : Game) → IsInOrder setting txns game →
+    IsInOrder setting txns (swept setting txns game)
 order_swept setting txns game order = (holds_swept setting txns (Reaches 0) game (keeps_events setting txns 0) (ordered setting txns game order)).order

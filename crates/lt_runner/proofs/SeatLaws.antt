@@ -19,14 +19,16 @@ map_set (s ∷ ss) zero seat = refl
 map_set (s ∷ ss) (suc place) seat = ap (λ (ts : List Turn). s.turn ∷ ts) (map_set ss place seat)
 
 -- the turns with one put in its place
-pub turns_put : (seats : List Seat) (place : ℕ) (d seat : Seat) → IsStrictlySortedBy nat_cmp (map (λ turn. turn.txn) (turns_of seats)) → place < length seats →
+pub turns_put : (seats : List Seat) (place : ℕ) (d seat : Seat) → IsStrictlySortedBy nat_cmp (map (λ turn. turn.txn) (turns_of seats)) →
+    place < length seats →
     (get_or seats place d).turn.txn ≡ seat.turn.txn → turns_of (slice_set seats place seat) ≡ with_turn seat.turn (turns_of seats)
 turns_put seats place d seat sorted inside same =
     let wide = length-map seats (λ (s : Seat). s.turn) in
     let here = get_or-map (λ (s : Seat). s.turn) seats place d d.turn inside in
     map_set seats place seat ∙ sym (with_turn_at seat.turn (turns_of seats) place d.turn sorted (omega (arith, wide)) (ap (λ (t : Turn). t.txn) here ∙ same))
 
-calm_put : (seats : List Seat) (place : ℕ) (seat : Seat) → AllByRecursion IsCalm seats → IsCalm seat → AllByRecursion IsCalm (slice_set seats place seat)
+calm_put : (seats : List Seat) (place : ℕ) (seat : Seat) → AllByRecursion IsCalm seats → IsCalm seat →
+    AllByRecursion IsCalm (slice_set seats place seat)
 calm_put [] place seat all one = tt
 calm_put (s ∷ ss) zero seat all one = (one, all.1)
 calm_put (s ∷ ss) (suc place) seat all one = (all.0, calm_put ss place seat all.1 one)

@@ -48,12 +48,14 @@ pub record IsSeat (setting : Setting) (txn : ℕ) (board : BoardView) (place : �
   pub here : seat.turn ≡ turn_on setting txn board
   pub calm : IsCalm seat
 
-pub calm_at : (seats : List Seat) (place : ℕ) (d : Seat) → AllByRecursion IsCalm seats → place < length seats → IsCalm (get_or seats place d)
+pub calm_at : (seats : List Seat) (place : ℕ) (d : Seat) → AllByRecursion IsCalm seats → place < length seats →
+    IsCalm (get_or seats place d)
 calm_at [] place d all inside = absurd (omega arith)
 calm_at (s ∷ ss) zero d all inside = all.0
 calm_at (s ∷ ss) (suc place) d all inside = calm_at ss place d all.1 (omega arith)
 
-pub seat_at : (setting : Setting) (txns : List ℕ) (txn : ℕ) (events : List Event) (board : BoardView) (place : ℕ) (seat : Seat) → IsBoard setting txns events board → place < length board.seats →
+pub seat_at : (setting : Setting) (txns : List ℕ) (txn : ℕ) (events : List Event) (board : BoardView) (place : ℕ) (seat : Seat) →
+    IsBoard setting txns events board → place < length board.seats →
     ((d : Seat) → (get_or board.seats place d).turn.txn ≡ txn) → ((d : Seat) → (get_or board.seats place d).turn ≡ turn_on setting txn board) →
     seat ≡ get_or board.seats place seat → IsSeat setting txn board place seat
 seat_at setting txns txn events board place seat stands inside number found is = record {
@@ -63,16 +65,19 @@ seat_at setting txns txn events board place seat stands inside number found is =
   calm = subst IsCalm (sym is) (calm_at board.seats place seat stands.calm inside);
 }
 
-pub steady_seat : (setting : Setting) (txns : List ℕ) (txn : ℕ) (events : List Event) (board : BoardView) (place : ℕ) (seat : Seat) → IsBoard setting txns events board → is_in txn txns ≡ true →
+pub steady_seat : (setting : Setting) (txns : List ℕ) (txn : ℕ) (events : List Event) (board : BoardView) (place : ℕ) (seat : Seat) →
+    IsBoard setting txns events board → is_in txn txns ≡ true →
     IsSeat setting txn board place seat → IsSteady setting seat.turn
 steady_seat setting txns txn events board place seat stands number at =
     subst (IsSteady setting) (sym at.here)
     (turn_has (IsSteady setting) setting txns (game_on events board) (turn_on setting txn board) (the_turn setting txns txn (game_on events board) number stands.order) stands.order.steady)
 
-sorted_on : (setting : Setting) (txns : List ℕ) (events : List Event) (board : BoardView) → IsBoard setting txns events board → IsStrictlySortedBy nat_cmp (numbers_on board)
+pub sorted_on : (setting : Setting) (txns : List ℕ) (events : List Event) (board : BoardView) → IsBoard setting txns events board →
+    IsStrictlySortedBy nat_cmp (numbers_on board)
 sorted_on setting txns events board stands = subst (IsStrictlySortedBy nat_cmp) (sym stands.order.numbers) stands.order.sorted
 
-txn_is : (setting : Setting) (txns : List ℕ) (txn : ℕ) (events : List Event) (board : BoardView) → IsBoard setting txns events board → is_in txn txns ≡ true → (turn_on setting txn board).txn ≡ txn
+pub txn_is : (setting : Setting) (txns : List ℕ) (txn : ℕ) (events : List Event) (board : BoardView) → IsBoard setting txns events board →
+    is_in txn txns ≡ true → (turn_on setting txn board).txn ≡ txn
 txn_is setting txns txn events board stands number = turn_of_txn setting txn (turns_of board.seats) (ap (is_in txn) stands.order.numbers ∙ number)
 
 -- Lines that are no lock lines.
@@ -82,7 +87,8 @@ quiet_answer tree range Granted turn = refl
 quiet_answer tree range Buffered turn = refl
 quiet_answer tree range (HeldBy owners) turn = refl
 
-quiet_asked : (txn : ℕ) (lines : List Line) (reply : Reply) (turn : Turn) → turn.waits ≡ false → next_wish txn lines ≡ None → (asked_at lines reply None turn).waits ≡ false
+quiet_asked : (txn : ℕ) (lines : List Line) (reply : Reply) (turn : Turn) → turn.waits ≡ false → next_wish txn lines ≡ None →
+    (asked_at lines reply None turn).waits ≡ false
 quiet_asked txn [] reply turn quiet none = quiet
 quiet_asked txn (line ∷ lines) reply turn quiet none = by_deed line.deed none
   where
@@ -106,7 +112,8 @@ quiet_ended (line ∷ lines) turn quiet = by_deed line.deed
     by_deed (Escalate tree) = quiet
     by_deed Big = quiet
 
-quiet_attempt : (setting : Setting) (turns : List Turn) (turn : Turn) (deed : Deed) (events : List Event) → turn.waits ≡ false → next_wish turn.txn turn.lines ≡ None →
+quiet_attempt : (setting : Setting) (turns : List Turn) (turn : Turn) (deed : Deed) (events : List Event) → turn.waits ≡ false →
+    next_wish turn.txn turn.lines ≡ None →
     (turn_after turn (attempt setting turns turn false deed events)).waits ≡ false
 quiet_attempt setting turns turn deed events quiet none = by_test (nat_lt (used (after setting events)) (bar_of setting turn))
   where
@@ -116,15 +123,18 @@ quiet_attempt setting turns turn deed events quiet none = by_test (nat_lt (used 
     later : List Event
     later = events ++ events_of joins
 
-    by_later : (b : Bool) → (turn_after turn (if b then asks joins (receipt_after setting later 0 turn.txn deed) else stops joins (place_after setting later) (used (after setting later)))).waits ≡ false
+    by_later : (b : Bool) →
+        (turn_after turn (if b then asks joins (receipt_after setting later 0 turn.txn deed) else stops joins (place_after setting later) (used (after setting later)))).waits ≡ false
     by_later true = quiet_asked turn.txn turn.lines _ turn quiet none
     by_later false = refl
 
-    by_test : (b : Bool) → (turn_after turn (if b then asks [] (receipt_after setting events 0 turn.txn deed) else behind_joins setting turns turn false deed later joins)).waits ≡ false
+    by_test : (b : Bool) →
+        (turn_after turn (if b then asks [] (receipt_after setting events 0 turn.txn deed) else behind_joins setting turns turn false deed later joins)).waits ≡ false
     by_test true = quiet_asked turn.txn turn.lines _ turn quiet none
     by_test false = by_later (nat_lt (used (after setting later)) (bar_of setting turn))
 
-quiet_move : (setting : Setting) (events : List Event) (turn : Turn) (deed : LineDeed) → turn.waits ≡ false → next_wish turn.txn turn.lines ≡ None →
+quiet_move : (setting : Setting) (events : List Event) (turn : Turn) (deed : LineDeed) → turn.waits ≡ false →
+    next_wish turn.txn turn.lines ≡ None →
     (turn_after turn (play_move setting events turn deed)).waits ≡ false
 quiet_move setting events turn (Try tree range) quiet none = quiet_attempt setting [] turn (Ask tree range Granted) events quiet none
 quiet_move setting events turn (Lock tree range) quiet none = quiet_attempt setting [] turn (Ask tree range Granted) events quiet none
@@ -133,7 +143,8 @@ quiet_move setting events turn Abort quiet none = quiet_ended turn.lines turn qu
 quiet_move setting events turn (Escalate tree) quiet none = refl
 quiet_move setting events turn Big quiet none = refl
 
-same_move : (setting : Setting) (game : Game) (turn : Turn) (deed : LineDeed) → wish_for turn.txn deed ≡ None → play_move setting game.events turn deed ≡ line_move setting game turn deed
+same_move : (setting : Setting) (game : Game) (turn : Turn) (deed : LineDeed) → wish_for turn.txn deed ≡ None →
+    play_move setting game.events turn deed ≡ line_move setting game turn deed
 same_move setting game turn (Try tree range) none = refl
 same_move setting game turn (Lock tree range) none = absurd cc
 same_move setting game turn End none = refl
@@ -150,7 +161,8 @@ ready_quiet turn ready = by_tests (is_none turn.outcome) turn.waits refl ready
     by_tests false true e h = absurd (let k : false ≡ true = h in cc)
 
 -- a line of it is played
-pub line_shows : (setting : Setting) (txns : List ℕ) (txn : ℕ) (events new_events : List Event) (board : BoardView) (place : ℕ) (seat new : Seat) → IsBoard setting txns events board →
+pub line_shows : (setting : Setting) (txns : List ℕ) (txn : ℕ) (events new_events : List Event) (board : BoardView) (place : ℕ) (seat new : Seat) →
+    IsBoard setting txns events board →
     GoesOn setting txn board → next_wish (turn_on setting txn board).txn (turn_on setting txn board).lines ≡ None → IsSeat setting txn board place seat →
     IsPlayedAtOnce setting seat.turn.lines events new_events seat new →
     Shows setting txns new_events (board_put board place new board.registry board.released) (moved setting txn (game_on events board))
@@ -197,118 +209,10 @@ line_shows setting txns txn events new_events board place seat new stands on non
         subst (λ (s : Seat). Shows setting txns new_events (board_put board place s board.registry board.released) (moved setting txn game)) (sym new_is)
         (shows_then setting txns new_events (board_put board place (idle new_turn) board.registry board.released) _ _ shows game_is)
 
--- Releases.
-
-pub length_frees : (setting : Setting) (txn : ℕ) (rs : List Release) (events : List Event) → length (with_frees setting txn rs events) ≡ length events + length rs
-length_frees setting txn [] events = omega arith
-length_frees setting txn (r ∷ rs) events =
-    let e = (receipt_after setting events 0 txn (Free r.tree r.range r.first 0)).event in
-    omega (arith, length_frees setting txn rs (events ++ e ∷ []), length-append events (e ∷ []))
-
--- a turn put in its own place changes nothing
-with_itself : (setting : Setting) (turn : Turn) (turns us : List Turn) → turn_of setting turn.txn turns ≡ turn → AllByRecursion (IsPlaced setting turns) us → with_turn turn us ≡ us
-with_itself setting turn turns [] there placed = refl
-with_itself setting turn turns (u ∷ us) there placed =
-    let here = by_test (u.txn == turn.txn) refl in
-    let rest = with_itself setting turn turns us there placed.1 in
-    λ j. here j ∷ rest j
-  where
-    by_test : (b : Bool) → (u.txn == turn.txn) ≡ b → (if b then turn else u) ≡ u
-    by_test true e = let same : u.txn ≡ turn.txn = grind (arith, nat_tests) in sym there ∙ ap (λ (n : ℕ). turn_of setting n turns) (sym same) ∙ placed.0.there
-    by_test false e = refl
-
-pub given_back : (setting : Setting) (txn : ℕ) (rs : List Release) (game : Game) (turn : Turn) → IsStrictlySortedBy nat_cmp (map (λ t. t.txn) game.turns) → is_in txn (map (λ t. t.txn) game.turns) ≡ true →
-    turn_of setting txn game.turns ≡ turn → turn.txn ≡ txn → turn.releases ≡ rs →
-    gives_back setting txn rs game ≡ record game { events = with_frees setting txn rs game.events; turns = with_turn (record turn { releases = [] }) game.turns }
-given_back setting txn [] game turn sorted number there same owed =
-    let itself : record turn { releases = [] } ≡ turn = ap (λ (rs : List Release). record turn { releases = rs }) (sym owed) in
-    let turns_are : with_turn (record turn { releases = [] }) game.turns ≡ game.turns =
-    ap (λ (t : Turn). with_turn t game.turns) itself
-    ∙ with_itself setting turn game.turns game.turns (ap (λ (n : ℕ). turn_of setting n game.turns) same ∙ there) (all_placed setting game.turns sorted) in
-    ap (λ (ts : List Turn). game_at game.events ts game.released) (sym turns_are)
-given_back setting txn (r ∷ rs) game turn sorted number there same owed =
-    let f = receipt_after setting game.events 0 txn (Free r.tree r.range r.first 0) in
-    let left = record turn { releases = rest_of_release turn.releases } in
-    let next = does setting turn (frees f) game in
-    let numbers_are = numbers_with left game.turns in
-    let next_there : turn_of setting txn next.turns ≡ left =
-    ap (λ (n : ℕ). turn_of setting n next.turns) (sym same) ∙ turn_of_with setting left game.turns (ap (λ (n : ℕ). is_in n (map (λ (t : Turn). t.txn) game.turns)) same ∙ number) in
-    ap (λ (t : Turn). gives_back setting txn rs (does setting t (frees f) game)) there
-    ∙ given_back setting txn rs next left (subst (IsStrictlySortedBy nat_cmp) (sym numbers_are) sorted) (ap (is_in txn) numbers_are ∙ number) next_there same (ap rest_of_release owed)
-    ∙ ap (λ (ts : List Turn). game_at (with_frees setting txn rs next.events) ts game.released) (with_turn_twice (record turn { releases = [] }) left game.turns refl)
-
-steady_emptied : (setting : Setting) (turn : Turn) → IsSteady setting turn → IsSteady setting (record turn { releases = [] })
-steady_emptied setting turn steady = record {
-  lines = steady.lines;
-  recorded = steady.recorded;
-  ranges = steady.ranges;
-  releases = tt;
-  held = steady.held;
-  over = steady.over;
-  still = steady.still;
-  none_owed = λ goes. refl;
-}
-
--- the rest of its release is made
-settled_is : (setting : Setting) (txns : List ℕ) (txn : ℕ) (events : List Event) (board : BoardView) → IsBoard setting txns events board → is_in txn txns ≡ true →
-    is_some (turn_on setting txn board).outcome ≡ true → (let turn = turn_on setting txn board in
-    game_at (with_frees setting turn.txn turn.releases events) (with_turn (record turn { releases = [] }) (turns_of board.seats)) true ≡ settles setting turn (game_on events board))
-settled_is setting txns txn events board stands number ended =
-    let turn = turn_on setting txn board in
-    let game = game_on events board in
-    let of_game = the_turn setting txns txn game number stands.order in
-    let back = given_back setting turn.txn turn.releases game turn (sorted_on setting txns events board stands) (ap (is_in turn.txn) stands.order.numbers ∙ of_game.number) of_game.there refl refl in
-    sym (on_true (is_some turn.outcome) (record (gives_back setting turn.txn turn.releases game) { released = true }) game ended ∙ ap (λ (g : Game). record g { released = true }) back)
-
-pub release_shows : (setting : Setting) (txns : List ℕ) (txn : ℕ) (events new_events : List Event) (board : BoardView) (place : ℕ) (seat new : Seat) → IsBoard setting txns events board →
-    is_in txn txns ≡ true → is_some (turn_on setting txn board).outcome ≡ true → IsSeat setting txn board place seat →
-    IsPlayedAtOnce setting seat.turn.lines events new_events seat new →
-    Shows setting txns new_events (board_put board place new board.registry true) (settles setting (turn_on setting txn board) (game_on events board))
-release_shows setting txns txn events new_events board place seat new stands number ended at played =
-    shows_then setting txns new_events (board_put board place new board.registry true) _ _ shows
-    (ap (λ (t : Turn). game_at new_events (with_turn t (turns_of board.seats)) true) new_turn
-    ∙ ap (λ (es : List Event). game_at es (with_turn (record turn { releases = [] }) (turns_of board.seats)) true) front
-    ∙ settled_is setting txns txn events board stands number ended)
-  where
-    turn : Turn
-    turn = turn_on setting txn board
-
-    steady : IsSteady setting turn
-    steady = subst (IsSteady setting) at.here (steady_seat setting txns txn events board place seat stands number at)
-
-    none : seat.turn.lines ≡ []
-    none = ap (λ (t : Turn). t.lines) at.here ∙ steady.over ended
-
-    made : IsReleased setting events new_events seat new
-    made = subst (λ (ls : List Line). IsPlayedAtOnce setting ls events new_events seat new) none played
-
-    new_turn : new.turn ≡ record turn { releases = [] }
-    new_turn = made.turn ∙ ap (λ (t : Turn). record t { releases = [] }) at.here
-
-    front : new_events ≡ with_frees setting turn.txn turn.releases events
-    front = made.front ∙ ap (λ (t : Turn). with_frees setting t.txn t.releases events) at.here
-
-    txn_same : new.turn.txn ≡ txn
-    txn_same = ap (λ (t : Turn). t.txn) new_turn ∙ txn_is setting txns txn events board stands number
-
-    was : wish_of (turn_of setting new.turn.txn (turns_of board.seats)) ≡ wish_of new.turn
-    was = ap (λ (n : ℕ). wish_of (turn_of setting n (turns_of board.seats))) txn_same ∙ ap wish_of (sym new_turn)
-
-    put : IsPut setting board place new board.registry
-    put = record {
-      inside = at.inside;
-      number = λ d. at.number d ∙ sym txn_same;
-      steady = subst (IsSteady setting) (sym new_turn) (steady_emptied setting turn steady);
-      calm = record { free = made.free at.calm.free; listed = made.listed ∙ at.calm.listed ∙ ap (λ (t : Turn). t.waits) at.here ∙ ap (λ (t : Turn). t.waits) (sym new_turn) };
-      waiting = stands.waiting ∙ sym (wishes_stay setting new.turn (turns_of board.seats) (sorted_on setting txns events board stands) was);
-    }
-
-    shows : Shows setting txns new_events (board_put board place new board.registry true) (game_at new_events (with_turn new.turn (turns_of board.seats)) true)
-    shows = shows_put setting txns events new_events board place new board.registry true stands put
-
 -- What a play asks.
 
-all_fit : (setting : Setting) (txn : ℕ) (lines : List Line) → AllByRecursion (IsFitLine setting txn) lines → AllByRecursion (λ line. IsPlayable setting line.deed) lines
+all_fit : (setting : Setting) (txn : ℕ) (lines : List Line) → AllByRecursion (IsFitLine setting txn) lines →
+    AllByRecursion (λ line. IsPlayable setting line.deed) lines
 all_fit setting txn [] all = tt
 all_fit setting txn (line ∷ lines) all = (by_deed line.deed all.0.deed, all_fit setting txn lines all.1)
   where
@@ -320,7 +224,8 @@ all_fit setting txn (line ∷ lines) all = (by_deed line.deed all.0.deed, all_fi
     by_deed (Escalate tree) fit = fit
     by_deed Big fit = tt
 
-all_freed : (setting : Setting) (rs : List Release) → AllByRecursion (IsFitRelease setting) rs → AllByRecursion (λ r. r.tree < setting.plan.trees) rs
+all_freed : (setting : Setting) (rs : List Release) → AllByRecursion (IsFitRelease setting) rs →
+    AllByRecursion (λ r. r.tree < setting.plan.trees) rs
 all_freed setting [] all = tt
 all_freed setting (r ∷ rs) all = (all.0.0, all_freed setting rs all.1)
 
@@ -332,7 +237,8 @@ has_number txn (n ∷ ns) all there = by_test (n == txn) refl there (has_number 
     by_test true e h later = let same : n ≡ txn = grind (arith, nat_tests) in omega (arith, same, all.0)
     by_test false e h later = later h
 
-pub seat_fits : (setting : Setting) (txns : List ℕ) (txn : ℕ) (events : List Event) (board : BoardView) (place : ℕ) (seat : Seat) → IsBoard setting txns events board → is_in txn txns ≡ true →
+pub seat_fits : (setting : Setting) (txns : List ℕ) (txn : ℕ) (events : List Event) (board : BoardView) (place : ℕ) (seat : Seat) →
+    IsBoard setting txns events board → is_in txn txns ≡ true →
     IsSeat setting txn board place seat → IsFit setting seat
 seat_fits setting txns txn events board place seat stands number at =
     let steady = steady_seat setting txns txn events board place seat stands number at in
@@ -353,11 +259,13 @@ few_moved setting txn game = by_lines (turn_of setting txn game.turns).lines
     by_lines (line ∷ lines) = longer (length game.events) game.events _ (omega arith)
 
 -- there are places for a line
-pub room_here : (setting : Setting) (txns : List ℕ) (txn : ℕ) (events : List Event) (board : BoardView) → HasRoom setting txns (moved setting txn (game_on events board)) →
+pub room_here : (setting : Setting) (txns : List ℕ) (txn : ℕ) (events : List Event) (board : BoardView) →
+    HasRoom setting txns (moved setting txn (game_on events board)) →
     place_after setting events + setting.plan.trees + 1 + length txns ≤ places_end
 room_here setting txns txn events board room = (room_before setting txns (game_on events board) (moved setting txn (game_on events board)) (few_moved setting txn (game_on events board)) room).places
 
-pub line_places : (setting : Setting) (txns : List ℕ) (txn : ℕ) (events : List Event) (board : BoardView) (place : ℕ) (seat : Seat) → IsBoard setting txns events board → is_in txn txns ≡ true →
+pub line_places : (setting : Setting) (txns : List ℕ) (txn : ℕ) (events : List Event) (board : BoardView) (place : ℕ) (seat : Seat) →
+    IsBoard setting txns events board → is_in txn txns ≡ true →
     is_some (turn_on setting txn board).outcome ≡ false → IsSeat setting txn board place seat → HasRoom setting txns (moved setting txn (game_on events board)) →
     place_after setting events + setting.plan.trees + length seat.turn.releases < places_end
 line_places setting txns txn events board place seat stands number goes at room =
@@ -366,41 +274,20 @@ line_places setting txns txn events board place seat stands number goes at room 
     let k = room_here setting txns txn events board room in
     omega (arith, k, ap (λ (rs : List Release). length rs) none)
 
--- and for a release
-pub release_places : (setting : Setting) (txns : List ℕ) (txn : ℕ) (events : List Event) (board : BoardView) (place : ℕ) (seat : Seat) → IsBoard setting txns events board → is_in txn txns ≡ true →
-    is_some (turn_on setting txn board).outcome ≡ true → IsSeat setting txn board place seat → HasRoom setting txns (settles setting (turn_on setting txn board) (game_on events board)) →
-    place_after setting events + setting.plan.trees + length seat.turn.releases < places_end
-release_places setting txns txn events board place seat stands number ended at room =
-    let turn = turn_on setting txn board in
-    let is = settled_is setting txns txn events board stands number ended in
-    let k = (subst (HasRoom setting txns) (sym is) room).places in
-    omega (arith, k, length_frees setting turn.txn turn.releases events, ap (λ (t : Turn). length t.releases) at.here)
-
 -- The board as the code holds it.
 
-pub seat_in : (setting : Setting) (txns : List ℕ) (txn : ℕ) (events : List Event) (inner board : BoardView) (place : ℕ) (seat : Seat) → inner ≡ board → IsBoard setting txns events board →
+pub seat_in : (setting : Setting) (txns : List ℕ) (txn : ℕ) (events : List Event) (inner board : BoardView) (place : ℕ) (seat : Seat) →
+    inner ≡ board → IsBoard setting txns events board →
     place < length board.seats → ((d : Seat) → (get_or board.seats place d).turn.txn ≡ txn) → ((d : Seat) → (get_or board.seats place d).turn ≡ turn_on setting txn board) →
     seat ≡ get_or inner.seats place seat → IsSeat setting txn board place seat
 seat_in setting txns txn events inner board place seat same stands inside number found is =
     seat_at setting txns txn events board place seat stands inside number found (is ∙ ap (λ (b : BoardView). get_or b.seats place seat) same)
 
-pub line_shows_in : (setting : Setting) (txns : List ℕ) (txn : ℕ) (events new_events : List Event) (inner board : BoardView) (place : ℕ) (seat new : Seat) → inner ≡ board → IsBoard setting txns events board →
+pub line_shows_in : (setting : Setting) (txns : List ℕ) (txn : ℕ) (events new_events : List Event) (inner board : BoardView) (place : ℕ) (seat new : Seat) →
+    inner ≡ board → IsBoard setting txns events board →
     GoesOn setting txn board → next_wish (turn_on setting txn board).txn (turn_on setting txn board).lines ≡ None → IsSeat setting txn board place seat →
     IsPlayedAtOnce setting seat.turn.lines events new_events seat new →
     Shows setting txns new_events (board_put inner place new inner.registry inner.released) (moved setting txn (game_on events board))
 line_shows_in setting txns txn events new_events inner board place seat new same stands on none at played =
     subst (λ (b : BoardView). Shows setting txns new_events (board_put b place new b.registry b.released) (moved setting txn (game_on events board))) (sym same)
     (line_shows setting txns txn events new_events board place seat new stands on none at played)
-
-pub release_shows_in : (setting : Setting) (txns : List ℕ) (txn : ℕ) (events new_events : List Event) (inner board : BoardView) (place : ℕ) (seat new : Seat) → inner ≡ board → IsBoard setting txns events board →
-    is_in txn txns ≡ true → is_some (turn_on setting txn board).outcome ≡ true → IsSeat setting txn board place seat →
-    IsPlayedAtOnce setting seat.turn.lines events new_events seat new →
-    Shows setting txns new_events (board_put inner place new inner.registry true) (settles setting (turn_on setting txn board) (game_on events board))
-release_shows_in setting txns txn events new_events inner board place seat new same stands number ended at played =
-    subst (λ (b : BoardView). Shows setting txns new_events (board_put b place new b.registry true) (settles setting (turn_on setting txn board) (game_on events board))) (sym same)
-    (release_shows setting txns txn events new_events board place seat new stands number ended at played)
-
-pub ended_still : (setting : Setting) (txns : List ℕ) (txn : ℕ) (events : List Event) (board : BoardView) (place : ℕ) (seat : Seat) → IsBoard setting txns events board → is_in txn txns ≡ true →
-    is_some (turn_on setting txn board).outcome ≡ true → IsSeat setting txn board place seat → seat.turn.waits ≡ false
-ended_still setting txns txn events board place seat stands number ended at =
-    (steady_seat setting txns txn events board place seat stands number at).still (ap (λ (t : Turn). is_some t.outcome) at.here ∙ ended)

@@ -49,25 +49,29 @@ above_fewer last n (m ∷ ms) less there = by_number (m == n) refl there (above_
     by_tests false true e f rest = omega arith
     by_tests false false e f rest = rest
 
-    here : (a b : Bool) → nat_lt n m ≡ a → nat_lt last m ≡ b → n ≡ m → length (if a then m ∷ above n ms else above n ms) < length (if b then m ∷ above last ms else above last ms)
+    here : (a b : Bool) → nat_lt n m ≡ a → nat_lt last m ≡ b → n ≡ m →
+        length (if a then m ∷ above n ms else above n ms) < length (if b then m ∷ above last ms else above last ms)
     here true b e f same = absurd (let x : n < m = grind (arith, nat_tests) in omega (arith, x, same))
     here false true e f same = let k = above_less last n ms (omega arith) in omega arith
     here false false e f same = absurd (let y : m ≤ last = grind (arith, nat_tests) in omega (arith, y, same))
 
-    by_number : (b : Bool) → (m == n) ≡ b → (b || is_in n ms) ≡ true → (is_in n ms ≡ true → length (above n ms) < length (above last ms)) → length (above n (m ∷ ms)) < length (above last (m ∷ ms))
+    by_number : (b : Bool) → (m == n) ≡ b → (b || is_in n ms) ≡ true → (is_in n ms ≡ true → length (above n ms) < length (above last ms)) →
+        length (above n (m ∷ ms)) < length (above last (m ∷ ms))
     by_number true e h later = here (nat_lt n m) (nat_lt last m) refl refl (let same : m ≡ n = grind (arith, nat_tests) in sym same)
     by_number false e h later = by_tests (nat_lt n m) (nat_lt last m) refl refl (later h)
 
 -- One that does not wait stays as it is.
 
-pub retried_still : (setting : Setting) (game : Game) (txn : ℕ) → (turn_of setting txn game.turns).waits ≡ false → retried setting game txn ≡ game
+pub retried_still : (setting : Setting) (game : Game) (txn : ℕ) → (turn_of setting txn game.turns).waits ≡ false →
+    retried setting game txn ≡ game
 retried_still setting game txn quiet = on_false (is_waiting (turn_of setting txn game.turns)) _ game quiet
 
 skipped : (setting : Setting) (game : Game) (last n : ℕ) (ns : List ℕ) → (turn_of setting n game.turns).waits ≡ false →
     fold (retried setting) game (above last (n ∷ ns)) ≡ fold (retried setting) game (above last ns)
 skipped setting game last n ns quiet = by_test (nat_lt last n)
   where
-    by_test : (b : Bool) → fold (retried setting) game (if b then n ∷ above last ns else above last ns) ≡ fold (retried setting) game (above last ns)
+    by_test : (b : Bool) →
+        fold (retried setting) game (if b then n ∷ above last ns else above last ns) ≡ fold (retried setting) game (above last ns)
     by_test true = ap (λ (g : Game). fold (retried setting) g (above last ns)) (retried_still setting game n quiet)
     by_test false = refl
 
@@ -89,7 +93,8 @@ above_on : (last n : ℕ) (ns : List ℕ) → n ≤ last → above last (n ∷ n
 above_on last n ns le = on_false (nat_lt last n) _ _ (grind (arith, nat_tests))
 
 -- the next one that waits is asked for next
-pub sweep_on : (setting : Setting) (game : Game) (last txn : ℕ) (ts : List Turn) → IsStrictlySortedBy nat_cmp (numbers ts) → AllByRecursion (IsPlaced setting game.turns) ts →
+pub sweep_on : (setting : Setting) (game : Game) (last txn : ℕ) (ts : List Turn) → IsStrictlySortedBy nat_cmp (numbers ts) →
+    AllByRecursion (IsPlaced setting game.turns) ts →
     AllByRecursion HasWish ts → next_above last (wishes_in ts) ≡ Some txn →
     fold (retried setting) game (above last (numbers ts)) ≡ fold (retried setting) (retried setting game txn) (above txn (numbers ts))
 unfolding IsStrictlySortedBy
@@ -104,7 +109,8 @@ sweep_on setting game last txn (t ∷ ts) sorted placed wishes found = by_wish (
         let less = over_in t.txn txn (numbers ts) sorted.0 (next_waits setting last txn ts sorted.1 h).number in
         sym (above_on txn t.txn (numbers ts) (omega arith))
 
-    by_test : (b : Bool) (w : Wish) → nat_lt last w.txn ≡ b → wish_of t ≡ Some w → (if b then Some w.txn else next_above last (wishes_in ts)) ≡ Some txn →
+    by_test : (b : Bool) (w : Wish) → nat_lt last w.txn ≡ b → wish_of t ≡ Some w →
+        (if b then Some w.txn else next_above last (wishes_in ts)) ≡ Some txn →
         (next_above last (wishes_in ts) ≡ Some txn → fold (retried setting) game (above last (numbers ts)) ≡ fold (retried setting) (retried setting game txn) (above txn (numbers ts))) →
         fold (retried setting) game (above last (numbers (t ∷ ts))) ≡ fold (retried setting) (retried setting game txn) (above txn (numbers (t ∷ ts)))
     by_test true w e is h rest =
@@ -133,12 +139,14 @@ sweep_on setting game last txn (t ∷ ts) sorted placed wishes found = by_wish (
     by_wish (Some w) is h rest = by_test (nat_lt last w.txn) w refl is h rest
 
 -- and where none is left above the last, the sweep is over
-pub sweep_over : (setting : Setting) (game : Game) (last : ℕ) (ts : List Turn) → AllByRecursion (IsPlaced setting game.turns) ts → AllByRecursion HasWish ts →
+pub sweep_over : (setting : Setting) (game : Game) (last : ℕ) (ts : List Turn) → AllByRecursion (IsPlaced setting game.turns) ts →
+    AllByRecursion HasWish ts →
     next_above last (wishes_in ts) ≡ None → fold (retried setting) game (above last (numbers ts)) ≡ game
 sweep_over setting game last [] placed wishes none = refl
 sweep_over setting game last (t ∷ ts) placed wishes none = by_wish (wish_of t) refl none (sweep_over setting game last ts placed.1 wishes.1)
   where
-    by_test : (b : Bool) (w : Wish) → nat_lt last w.txn ≡ b → wish_of t ≡ Some w → (if b then Some w.txn else next_above last (wishes_in ts)) ≡ None →
+    by_test : (b : Bool) (w : Wish) → nat_lt last w.txn ≡ b → wish_of t ≡ Some w →
+        (if b then Some w.txn else next_above last (wishes_in ts)) ≡ None →
         (next_above last (wishes_in ts) ≡ None → fold (retried setting) game (above last (numbers ts)) ≡ game) → fold (retried setting) game (above last (numbers (t ∷ ts))) ≡ game
     by_test true w e is h rest = absurd cc
     by_test false w e is h rest =

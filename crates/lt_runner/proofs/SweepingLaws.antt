@@ -49,7 +49,8 @@ have_wishes : (setting : Setting) (turns : List Turn) → AllByRecursion (IsStea
 have_wishes setting [] steady = tt
 have_wishes setting (t ∷ ts) steady = ((λ waits. lock_wish t.txn t.lines (steady.0.held waits)), have_wishes setting ts steady.1)
 
-sorted_on : (setting : Setting) (txns : List ℕ) (events : List Event) (board : BoardView) → IsBoard setting txns events board → IsStrictlySortedBy nat_cmp (numbers_on board)
+sorted_on : (setting : Setting) (txns : List ℕ) (events : List Event) (board : BoardView) → IsBoard setting txns events board →
+    IsStrictlySortedBy nat_cmp (numbers_on board)
 sorted_on setting txns events board stands = subst (IsStrictlySortedBy nat_cmp) (sym stands.order.numbers) stands.order.sorted
 
 -- What is left of a sweep behind this number comes to this in the end.
@@ -64,7 +65,8 @@ all_numbered (n ∷ ns) all = ((let k : 1 ≤ n = all.0 in let less : 0 < n = k 
     below : (m : ℕ) → 0 < m → nat_cmp 0 m ≡ Less
     below m less = grind (arith, nat_tests)
 
-pub sweep_begins : (setting : Setting) (txns : List ℕ) (events : List Event) (board new_board : BoardView) → IsBoard setting txns events board → new_board ≡ record board { released = false } →
+pub sweep_begins : (setting : Setting) (txns : List ℕ) (events : List Event) (board new_board : BoardView) →
+    IsBoard setting txns events board → new_board ≡ record board { released = false } →
     Sweeping setting txns events new_board 0 (swept setting txns (game_on events board))
 sweep_begins setting txns events board new_board stands same =
     subst (λ (b : BoardView). Sweeping setting txns events b 0 (swept setting txns (game_on events board))) (sym same) (record {
@@ -77,17 +79,20 @@ sweep_begins setting txns events board new_board stands same =
       onward = ap (fold (retried setting) (record (game_on events board) { released = false })) (all_above 0 0 txns (omega arith) (all_numbered txns stands.numbered));
     })
 
-pub sweep_next : (setting : Setting) (txns : List ℕ) (events : List Event) (board : BoardView) (last txn : ℕ) → IsBoard setting txns events board → next_above last board.registry ≡ Some txn →
+pub sweep_next : (setting : Setting) (txns : List ℕ) (events : List Event) (board : BoardView) (last txn : ℕ) →
+    IsBoard setting txns events board → next_above last board.registry ≡ Some txn →
     IsNext setting last txn (turns_of board.seats)
 sweep_next setting txns events board last txn stands found =
     next_waits setting last txn (turns_of board.seats) (sorted_on setting txns events board stands) (ap (next_above last) (sym stands.waiting) ∙ found)
 
-pub sweep_number : (setting : Setting) (txns : List ℕ) (events : List Event) (board : BoardView) (last txn : ℕ) → IsBoard setting txns events board → next_above last board.registry ≡ Some txn → is_in txn txns ≡ true
+pub sweep_number : (setting : Setting) (txns : List ℕ) (events : List Event) (board : BoardView) (last txn : ℕ) →
+    IsBoard setting txns events board → next_above last board.registry ≡ Some txn → is_in txn txns ≡ true
 sweep_number setting txns events board last txn stands found =
     ap (is_in txn) (sym stands.order.numbers) ∙ (sweep_next setting txns events board last txn stands found).number
 
 -- the next one asks again
-onward_next : (setting : Setting) (txns : List ℕ) (events : List Event) (board : BoardView) (last txn : ℕ) (whole : Game) → Sweeping setting txns events board last whole →
+onward_next : (setting : Setting) (txns : List ℕ) (events : List Event) (board : BoardView) (last txn : ℕ) (whole : Game) →
+    Sweeping setting txns events board last whole →
     next_above last board.registry ≡ Some txn → fold (retried setting) (retried setting (game_on events board) txn) (above txn txns) ≡ whole
 onward_next setting txns events board last txn whole sweeping found =
     let stands = sweeping.stands in
@@ -98,7 +103,8 @@ onward_next setting txns events board last txn whole sweeping found =
     ap (λ (ns : List ℕ). fold (retried setting) (retried setting game txn) (above txn ns)) (sym stands.order.numbers)
     ∙ sym on ∙ ap (λ (ns : List ℕ). fold (retried setting) game (above last ns)) stands.order.numbers ∙ sweeping.onward
 
-pub sweep_more : (setting : Setting) (txns : List ℕ) (events new_events : List Event) (board new_board : BoardView) (last txn : ℕ) (whole : Game) → Sweeping setting txns events board last whole →
+pub sweep_more : (setting : Setting) (txns : List ℕ) (events new_events : List Event) (board new_board : BoardView) (last txn : ℕ) (whole : Game) →
+    Sweeping setting txns events board last whole →
     next_above last board.registry ≡ Some txn → Shows setting (numbers_on board) new_events new_board (retried setting (game_on events board) txn) →
     Sweeping setting txns new_events new_board txn whole
 sweep_more setting txns events new_events board new_board last txn whole sweeping found shows =
@@ -116,7 +122,8 @@ are_above last txns (n ∷ ns) all = by_test (nat_lt last n) (are_above last txn
     by_test true rest = (all.0, rest)
     by_test false rest = rest
 
-pub sweep_room : (setting : Setting) (txns : List ℕ) (events : List Event) (board : BoardView) (last txn : ℕ) (whole : Game) → Sweeping setting txns events board last whole →
+pub sweep_room : (setting : Setting) (txns : List ℕ) (events : List Event) (board : BoardView) (last txn : ℕ) (whole : Game) →
+    Sweeping setting txns events board last whole →
     next_above last board.registry ≡ Some txn → HasRoom setting txns whole → HasRoom setting (numbers_on board) (retried setting (game_on events board) txn)
 sweep_room setting txns events board last txn whole sweeping found room =
     let game = game_on events board in
@@ -125,7 +132,8 @@ sweep_room setting txns events board last txn whole sweeping found room =
     (room_round setting txns (above txn txns) (retried setting game txn) (are_above txn txns txns (are_of txns)) (order_retried setting txns txn game number sweeping.stands.order)
     (subst (HasRoom setting txns) (sym (onward_next setting txns events board last txn whole sweeping found)) room))
 
-pub sweep_ends : (setting : Setting) (txns : List ℕ) (events : List Event) (board : BoardView) (last : ℕ) (whole : Game) → Sweeping setting txns events board last whole →
+pub sweep_ends : (setting : Setting) (txns : List ℕ) (events : List Event) (board : BoardView) (last : ℕ) (whole : Game) →
+    Sweeping setting txns events board last whole →
     next_above last board.registry ≡ None → Shows setting txns events board whole
 sweep_ends setting txns events board last whole sweeping none =
     let stands = sweeping.stands in
@@ -135,7 +143,8 @@ sweep_ends setting txns events board last whole sweeping none =
     (ap (next_above last) (sym stands.waiting) ∙ none) in
     record { stands = stands; game_is = sym over ∙ ap (λ (ns : List ℕ). fold (retried setting) game (above last ns)) stands.order.numbers ∙ sweeping.onward }
 
-pub sweep_falls : (setting : Setting) (txns : List ℕ) (events : List Event) (board : BoardView) (last txn : ℕ) → IsBoard setting txns events board → next_above last board.registry ≡ Some txn →
+pub sweep_falls : (setting : Setting) (txns : List ℕ) (events : List Event) (board : BoardView) (last txn : ℕ) →
+    IsBoard setting txns events board → next_above last board.registry ≡ Some txn →
     length (above txn txns) < length (above last txns)
 sweep_falls setting txns events board last txn stands found =
     above_fewer last txn txns (sweep_next setting txns events board last txn stands found).behind (sweep_number setting txns events board last txn stands found)
@@ -148,7 +157,8 @@ pub record IsRetry (setting : Setting) (txns : List ℕ) (txn : ℕ) (game : Gam
   pub is : retried setting game txn ≡ (let next = settles setting (turn_of setting txn (moved setting txn game).turns) (moved setting txn game) in
       plays_on setting txn (turn_of setting txn next.turns).lines next)
 
-pub retry_parts : (setting : Setting) (txns : List ℕ) (txn : ℕ) (events : List Event) (board : BoardView) → IsBoard setting txns events board → is_in txn txns ≡ true →
+pub retry_parts : (setting : Setting) (txns : List ℕ) (txn : ℕ) (events : List Event) (board : BoardView) →
+    IsBoard setting txns events board → is_in txn txns ≡ true →
     is_waiting (turn_on setting txn board) ≡ true → HasRoom setting txns (retried setting (game_on events board) txn) → IsRetry setting txns txn (game_on events board)
 retry_parts setting txns txn events board stands number waits room =
     record { moved_room = moved_room; next_room = next_room; is = is }
@@ -182,14 +192,16 @@ retry_parts setting txns txn events board stands number waits room =
     moved_room = room_settles setting txns txn (moved setting txn game) number (order_moved setting txns txn game number goes stands.order) next_room
 
 -- there is room for its release
-pub retry_release_room : (setting : Setting) (txns : List ℕ) (txn : ℕ) (game : Game) (events : List Event) (board : BoardView) → IsRetry setting txns txn game →
+pub retry_release_room : (setting : Setting) (txns : List ℕ) (txn : ℕ) (game : Game) (events : List Event) (board : BoardView) →
+    IsRetry setting txns txn game →
     Shows setting txns events board (moved setting txn game) → HasRoom setting (numbers_on board) (settles setting (turn_on setting txn board) (game_on events board))
 retry_release_room setting txns txn game events board parts shows =
     room_own setting txns events board _ shows.stands
     (subst (λ (g : Game). HasRoom setting txns (settles setting (turn_of setting txn g.turns) g)) (sym shows.game_is) parts.next_room)
 
 -- what its release shows
-pub retry_released : (setting : Setting) (txns : List ℕ) (txn : ℕ) (game : Game) (events new_events : List Event) (board new_board : BoardView) → Shows setting txns events board (moved setting txn game) →
+pub retry_released : (setting : Setting) (txns : List ℕ) (txn : ℕ) (game : Game) (events new_events : List Event) (board new_board : BoardView) →
+    Shows setting txns events board (moved setting txn game) →
     Shows setting (numbers_on board) new_events new_board (settles setting (turn_on setting txn board) (game_on events board)) →
     Shows setting txns new_events new_board (settles setting (turn_of setting txn (moved setting txn game).turns) (moved setting txn game))
 retry_released setting txns txn game events new_events board new_board first second =
@@ -197,7 +209,8 @@ retry_released setting txns txn game events new_events board new_board first sec
     (shows_of setting txns events new_events board new_board _ first.stands second)
 
 -- and for the lines behind it
-pub retry_on_room : (setting : Setting) (txns : List ℕ) (txn : ℕ) (game : Game) (events new_events : List Event) (board new_board : BoardView) → IsRetry setting txns txn game →
+pub retry_on_room : (setting : Setting) (txns : List ℕ) (txn : ℕ) (game : Game) (events new_events : List Event) (board new_board : BoardView) →
+    IsRetry setting txns txn game →
     Shows setting txns events board (moved setting txn game) →
     Shows setting (numbers_on board) new_events new_board (settles setting (turn_on setting txn board) (game_on events board)) →
     HasRoom setting txns (retried setting game txn) → HasRoom setting (numbers_on new_board) (plays_on setting txn (turn_on setting txn new_board).lines (game_on new_events new_board))
@@ -207,7 +220,8 @@ retry_on_room setting txns txn game events new_events board new_board parts firs
     (subst (λ (g : Game). HasRoom setting txns (plays_on setting txn (turn_of setting txn g.turns).lines g)) (sym shows.game_is) (subst (HasRoom setting txns) parts.is room))
 
 -- it shows what it comes to
-pub retry_shows : (setting : Setting) (txns : List ℕ) (txn : ℕ) (game : Game) (events new_events last_events : List Event) (board new_board last_board : BoardView) → IsRetry setting txns txn game →
+pub retry_shows : (setting : Setting) (txns : List ℕ) (txn : ℕ) (game : Game) (events new_events last_events : List Event) (board new_board last_board : BoardView) →
+    IsRetry setting txns txn game →
     Shows setting txns events board (moved setting txn game) →
     Shows setting (numbers_on board) new_events new_board (settles setting (turn_on setting txn board) (game_on events board)) →
     Shows setting (numbers_on new_board) last_events last_board (plays_on setting txn (turn_on setting txn new_board).lines (game_on new_events new_board)) →

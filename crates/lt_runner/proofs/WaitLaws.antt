@@ -31,7 +31,8 @@ differ n m d = by_test (n == m) refl
 -- A turn that is put in.
 
 -- one that waits for the same as the old one with its number
-wishes_same : (new : Turn) (turns : List Turn) → AllByRecursion (λ t. t.txn ≡ new.txn → wish_of t ≡ wish_of new) turns → wishes_in (with_turn new turns) ≡ wishes_in turns
+wishes_same : (new : Turn) (turns : List Turn) → AllByRecursion (λ t. t.txn ≡ new.txn → wish_of t ≡ wish_of new) turns →
+    wishes_in (with_turn new turns) ≡ wishes_in turns
 wishes_same new [] all = refl
 wishes_same new (t ∷ ts) all = by_test (t.txn == new.txn) refl (wishes_same new ts all.1)
   where
@@ -41,26 +42,31 @@ wishes_same new (t ∷ ts) all = by_test (t.txn == new.txn) refl (wishes_same ne
         ap (λ (o : Option Wish). cons_option o (wishes_in (with_turn new ts))) (sym (all.0 (eq_of t.txn new.txn e))) ∙ ap (cons_option (wish_of t)) rest
     by_test false e rest = ap (cons_option (wish_of t)) rest
 
-same_wish : (setting : Setting) (new : Turn) (turns us : List Turn) → wish_of (turn_of setting new.txn turns) ≡ wish_of new → AllByRecursion (IsPlaced setting turns) us →
+same_wish : (setting : Setting) (new : Turn) (turns us : List Turn) → wish_of (turn_of setting new.txn turns) ≡ wish_of new →
+    AllByRecursion (IsPlaced setting turns) us →
     AllByRecursion (λ t. t.txn ≡ new.txn → wish_of t ≡ wish_of new) us
 same_wish setting new turns [] was placed = tt
 same_wish setting new turns (t ∷ ts) was placed =
     ((λ same. ap wish_of (sym placed.0.there) ∙ ap (λ (n : ℕ). wish_of (turn_of setting n turns)) same ∙ was), same_wish setting new turns ts was placed.1)
 
-pub wishes_stay : (setting : Setting) (new : Turn) (turns : List Turn) → IsStrictlySortedBy nat_cmp (numbers turns) → wish_of (turn_of setting new.txn turns) ≡ wish_of new →
+pub wishes_stay : (setting : Setting) (new : Turn) (turns : List Turn) → IsStrictlySortedBy nat_cmp (numbers turns) →
+    wish_of (turn_of setting new.txn turns) ≡ wish_of new →
     wishes_in (with_turn new turns) ≡ wishes_in turns
 wishes_stay setting new turns sorted was = wishes_same new turns (same_wish setting new turns turns was (all_placed setting turns sorted))
 
-keep_wish : (txn : ℕ) (o : Option Wish) (ws : List Wish) → ((w : Wish) → o ≡ Some w → w.txn ≡ txn → ⊥) → without txn (cons_option o ws) ≡ cons_option o (without txn ws)
+keep_wish : (txn : ℕ) (o : Option Wish) (ws : List Wish) → ((w : Wish) → o ≡ Some w → w.txn ≡ txn → ⊥) →
+    without txn (cons_option o ws) ≡ cons_option o (without txn ws)
 keep_wish txn None ws other = refl
 keep_wish txn (Some w) ws other = on_true (not (w.txn == txn)) _ _ (ap not (differ w.txn txn (other w refl)))
 
-drop_wish : (txn : ℕ) (o : Option Wish) (ws : List Wish) → ((w : Wish) → o ≡ Some w → w.txn ≡ txn) → without txn (cons_option o ws) ≡ without txn ws
+drop_wish : (txn : ℕ) (o : Option Wish) (ws : List Wish) → ((w : Wish) → o ≡ Some w → w.txn ≡ txn) →
+    without txn (cons_option o ws) ≡ without txn ws
 drop_wish txn None ws own = refl
 drop_wish txn (Some w) ws own = on_false (not (w.txn == txn)) _ _ (ap not (eq-eqb w.txn txn (own w refl)))
 
 -- one that does not wait
-pub wishes_leave : (new : Turn) (turns : List Turn) → wish_of new ≡ None → wishes_in (with_turn new turns) ≡ without new.txn (wishes_in turns)
+pub wishes_leave : (new : Turn) (turns : List Turn) → wish_of new ≡ None →
+    wishes_in (with_turn new turns) ≡ without new.txn (wishes_in turns)
 wishes_leave new [] none = refl
 wishes_leave new (t ∷ ts) none = by_test (t.txn == new.txn) refl (wishes_leave new ts none)
   where
@@ -92,7 +98,8 @@ wish_first : (wish : Wish) (ts : List Turn) → AllOver wish.txn (numbers ts) �
 wish_first wish [] all = refl
 wish_first wish (t ∷ ts) all = by_wish (wish_of t) refl (wish_first wish ts all.1)
   where
-    by_wish : (o : Option Wish) → wish_of t ≡ o → with_wish wish (wishes_in ts) ≡ wish ∷ wishes_in ts → with_wish wish (cons_option o (wishes_in ts)) ≡ wish ∷ cons_option o (wishes_in ts)
+    by_wish : (o : Option Wish) → wish_of t ≡ o → with_wish wish (wishes_in ts) ≡ wish ∷ wishes_in ts →
+        with_wish wish (cons_option o (wishes_in ts)) ≡ wish ∷ cons_option o (wishes_in ts)
     by_wish None is rest = rest
     by_wish (Some w) is rest =
         let less = over_less wish.txn t.txn all.0 in
@@ -107,7 +114,8 @@ with_over new ts all = wishes_same new ts (apart ts all)
     apart (u ∷ us) over = ((λ same. absurd (let less = over_less new.txn u.txn over.0 in omega (arith, same))), apart us over.1)
 
 -- and one that waits now, and did not
-pub wishes_come : (setting : Setting) (new : Turn) (wish : Wish) (turns : List Turn) → IsStrictlySortedBy nat_cmp (numbers turns) → is_in new.txn (numbers turns) ≡ true →
+pub wishes_come : (setting : Setting) (new : Turn) (wish : Wish) (turns : List Turn) → IsStrictlySortedBy nat_cmp (numbers turns) →
+    is_in new.txn (numbers turns) ≡ true →
     wish_of new ≡ Some wish → (turn_of setting new.txn turns).waits ≡ false → wishes_in (with_turn new turns) ≡ with_wish wish (wishes_in turns)
 unfolding IsStrictlySortedBy
 wishes_come setting new wish [] sorted there waits was = absurd (let k : false ≡ true = there in cc)
@@ -120,14 +128,16 @@ wishes_come setting new wish (t ∷ ts) sorted there waits was = by_test (t.txn 
     old true e f = absurd (let k : true ≡ false = f in cc)
     old false e f = on_false t.waits (next_wish t.txn t.lines) None e
 
-    later : new.txn ≢ t.txn → t.txn < new.txn → (o : Option Wish) → wish_of t ≡ o → wishes_in (with_turn new ts) ≡ with_wish wish (wishes_in ts) →
+    later : new.txn ≢ t.txn → t.txn < new.txn → (o : Option Wish) → wish_of t ≡ o →
+        wishes_in (with_turn new ts) ≡ with_wish wish (wishes_in ts) →
         cons_option o (wishes_in (with_turn new ts)) ≡ with_wish wish (cons_option o (wishes_in ts))
     later apart less None is rest = rest
     later apart less (Some w) is rest =
         let here = wish_of_number t w is in
         ap (λ (ws : List Wish). w ∷ ws) rest ∙ sym (on_false (nat_lt wish.txn w.txn) _ _ (let k : w.txn < wish.txn = omega (arith, own, here, less) in grind (arith, nat_tests)))
 
-    by_test : (b : Bool) → (t.txn == new.txn) ≡ b → (b || is_in new.txn (numbers ts)) ≡ true → (if b then t else turn_of setting new.txn ts).waits ≡ false →
+    by_test : (b : Bool) → (t.txn == new.txn) ≡ b → (b || is_in new.txn (numbers ts)) ≡ true →
+        (if b then t else turn_of setting new.txn ts).waits ≡ false →
         (is_in new.txn (numbers ts) ≡ true → wish_of new ≡ Some wish → (turn_of setting new.txn ts).waits ≡ false → wishes_in (with_turn new ts) ≡ with_wish wish (wishes_in ts)) →
         cons_option (wish_of (if b then new else t)) (wishes_in (with_turn new ts)) ≡ with_wish wish (cons_option (wish_of t) (wishes_in ts))
     by_test true e h quiet rest =
@@ -163,7 +173,8 @@ waits_at t w is = by_test t.waits refl is
     by_test false e h = absurd cc
 
 -- the next one that waits
-pub next_waits : (setting : Setting) (last txn : ℕ) (turns : List Turn) → IsStrictlySortedBy nat_cmp (numbers turns) → next_above last (wishes_in turns) ≡ Some txn → IsNext setting last txn turns
+pub next_waits : (setting : Setting) (last txn : ℕ) (turns : List Turn) → IsStrictlySortedBy nat_cmp (numbers turns) →
+    next_above last (wishes_in turns) ≡ Some txn → IsNext setting last txn turns
 unfolding IsStrictlySortedBy
 next_waits setting last txn [] sorted found = absurd cc
 next_waits setting last txn (t ∷ ts) sorted found = by_wish (wish_of t) refl found (next_waits setting last txn ts sorted.1)
@@ -175,7 +186,8 @@ next_waits setting last txn (t ∷ ts) sorted found = by_wish (wish_of t) refl f
       behind = l.behind;
     }
 
-    by_test : (b : Bool) (w : Wish) → nat_lt last w.txn ≡ b → wish_of t ≡ Some w → (if b then Some w.txn else next_above last (wishes_in ts)) ≡ Some txn →
+    by_test : (b : Bool) (w : Wish) → nat_lt last w.txn ≡ b → wish_of t ≡ Some w →
+        (if b then Some w.txn else next_above last (wishes_in ts)) ≡ Some txn →
         (next_above last (wishes_in ts) ≡ Some txn → IsNext setting last txn ts) → IsNext setting last txn (t ∷ ts)
     by_test true w e is h rest =
         let own = wish_of_number t w is in

@@ -22,16 +22,19 @@ use Rattle.lt_runner.proofs.RoomLaws.{Reaches, keeps_events, begun, room_before}
 steps_keep : (setting : Setting) (txns : List ℕ) (count : ℕ) → KeepsSteps setting txns (λ left game. Reaches count game)
 steps_keep setting txns count = steps_alone setting txns (Reaches count) (keeps_events setting txns count) (λ game turn line at le. le)
 
-taken_on : (setting : Setting) (txns : List ℕ) (count : ℕ) (line : Line) (game : Game) → IsFit setting txns line → Holds setting txns (Reaches count) game →
+taken_on : (setting : Setting) (txns : List ℕ) (count : ℕ) (line : Line) (game : Game) → IsFit setting txns line →
+    Holds setting txns (Reaches count) game →
     Holds setting txns (Reaches count) (takes_line setting txns game line)
 taken_on setting txns count line game fit holds = holds_taken setting txns (λ left game. Reaches count game) line [] game (steps_keep setting txns count) fit holds
 
-all_taken : (setting : Setting) (txns : List ℕ) (count : ℕ) (lines : List Line) (game : Game) → AllByRecursion (IsFit setting txns) lines → Holds setting txns (Reaches count) game →
+all_taken : (setting : Setting) (txns : List ℕ) (count : ℕ) (lines : List Line) (game : Game) → AllByRecursion (IsFit setting txns) lines →
+    Holds setting txns (Reaches count) game →
     Holds setting txns (Reaches count) (fold (takes_line setting txns) game lines)
 all_taken setting txns count [] game fit holds = holds
 all_taken setting txns count (line ∷ lines) game fit holds = all_taken setting txns count lines (takes_line setting txns game line) fit.1 (taken_on setting txns count line game fit.0 holds)
 
-ended_on : (setting : Setting) (txns : List ℕ) (count : ℕ) (game : Game) → Holds setting txns (Reaches count) game → Holds setting txns (Reaches count) (ends_one setting txns game)
+ended_on : (setting : Setting) (txns : List ℕ) (count : ℕ) (game : Game) → Holds setting txns (Reaches count) game →
+    Holds setting txns (Reaches count) (ends_one setting txns game)
 ended_on setting txns count game holds =
     holds_settled setting txns (Reaches count) (ends_first setting txns (find is_ready game.turns) game) keeps (by_found (find is_ready game.turns) refl)
   where
@@ -70,18 +73,21 @@ pub record Taking (setting : Setting) (txns : List ℕ) (events : List Event) (b
   pub stands : IsBoard setting txns events board
   pub onward : fold (takes_line setting txns) (game_on events board) left ≡ whole
 
-next_taken : (setting : Setting) (txns : List ℕ) (game whole : Game) (lines : List Line) (i : ℕ) (line : Line) → i < length lines → line ≡ get_or lines i line →
+next_taken : (setting : Setting) (txns : List ℕ) (game whole : Game) (lines : List Line) (i : ℕ) (line : Line) → i < length lines →
+    line ≡ get_or lines i line →
     fold (takes_line setting txns) game (drop i lines) ≡ whole → fold (takes_line setting txns) (takes_line setting txns game line) (drop (i + 1) lines) ≡ whole
 next_taken setting txns game whole lines i line inside is goes =
     ap (λ (l : Line). fold (takes_line setting txns) (takes_line setting txns game l) (drop (i + 1) lines)) is
     ∙ sym (at_drop_more (fold (takes_line setting txns) game) lines i line inside) ∙ goes
 
-pub taking_fit : (setting : Setting) (txns : List ℕ) (events : List Event) (board : BoardView) (lines : List Line) (i : ℕ) (line : Line) → IsBoard setting txns events board → i < length lines → line ≡ get_or lines i line →
+pub taking_fit : (setting : Setting) (txns : List ℕ) (events : List Event) (board : BoardView) (lines : List Line) (i : ℕ) (line : Line) →
+    IsBoard setting txns events board → i < length lines → line ≡ get_or lines i line →
     AllByRecursion (IsFit setting txns) lines → IsFit setting (numbers_on board) line
 taking_fit setting txns events board lines i line stands inside is fits =
     subst (λ (ns : List ℕ). IsFit setting ns line) (sym stands.order.numbers) (subst (IsFit setting txns) (sym is) (all_at (IsFit setting txns) lines i line fits inside))
 
-pub taking_room : (setting : Setting) (txns : List ℕ) (events : List Event) (board : BoardView) (lines : List Line) (i : ℕ) (line : Line) (whole : Game) → Taking setting txns events board (drop i lines) whole →
+pub taking_room : (setting : Setting) (txns : List ℕ) (events : List Event) (board : BoardView) (lines : List Line) (i : ℕ) (line : Line) (whole : Game) →
+    Taking setting txns events board (drop i lines) whole →
     i < length lines → line ≡ get_or lines i line → AllByRecursion (IsFit setting txns) lines → HasRoom setting txns whole →
     HasRoom setting (numbers_on board) (takes_line setting (numbers_on board) (game_on events board) line)
 taking_room setting txns events board lines i line whole taking inside is fits room =
@@ -114,7 +120,8 @@ next_ended : (setting : Setting) (txns : List ℕ) (game whole : Game) (left : L
     fold (λ game (txn : ℕ). ends_one setting txns game) game (drop i left) ≡ whole → fold (λ game (txn : ℕ). ends_one setting txns game) (ends_one setting txns game) (drop (i + 1) left) ≡ whole
 next_ended setting txns game whole left i inside goes = sym (at_drop_more (fold (λ (g : Game) (txn : ℕ). ends_one setting txns g) game) left i 0 inside) ∙ goes
 
-pub ending_room : (setting : Setting) (txns : List ℕ) (events : List Event) (board : BoardView) (left : List ℕ) (i : ℕ) (whole : Game) → Ending setting txns events board (drop i left) whole →
+pub ending_room : (setting : Setting) (txns : List ℕ) (events : List Event) (board : BoardView) (left : List ℕ) (i : ℕ) (whole : Game) →
+    Ending setting txns events board (drop i left) whole →
     i < length left → HasRoom setting txns whole → HasRoom setting (numbers_on board) (ends_one setting (numbers_on board) (game_on events board))
 ending_room setting txns events board left i whole ending inside room =
     let game = game_on events board in
@@ -137,7 +144,8 @@ ending_more setting txns events new_events board new_board left i whole ending i
 
 -- The whole run.
 
-pub lines_room : (setting : Setting) (txns : List ℕ) (lines : List Line) (game : Game) → IsInOrder setting txns game → AllByRecursion (IsFit setting txns) lines → game ≡ opening_game setting txns →
+pub lines_room : (setting : Setting) (txns : List ℕ) (lines : List Line) (game : Game) → IsInOrder setting txns game →
+    AllByRecursion (IsFit setting txns) lines → game ≡ opening_game setting txns →
     HasRoom setting txns (played setting txns lines) → HasRoom setting txns (fold (takes_line setting txns) game lines)
 lines_room setting txns lines game order fits fresh room =
     let middle = fold (takes_line setting txns) game lines in
@@ -146,7 +154,8 @@ lines_room setting txns lines game order fits fresh room =
     room_before setting txns middle _ rest.is
     (subst (λ (g : Game). HasRoom setting txns (fold (λ game (txn : ℕ). ends_one setting txns game) (fold (takes_line setting txns) g lines) txns)) (sym fresh) room)
 
-pub ends_room_all : (setting : Setting) (txns : List ℕ) (lines : List Line) (game : Game) (events : List Event) (board : BoardView) → game ≡ opening_game setting txns →
+pub ends_room_all : (setting : Setting) (txns : List ℕ) (lines : List Line) (game : Game) (events : List Event) (board : BoardView) →
+    game ≡ opening_game setting txns →
     Shows setting txns events board (fold (takes_line setting txns) game lines) → HasRoom setting txns (played setting txns lines) →
     HasRoom setting (numbers_on board) (fold (λ game (txn : ℕ). ends_one setting (numbers_on board) game) (game_on events board) (numbers_on board))
 ends_room_all setting txns lines game events board fresh shows room =
@@ -154,7 +163,8 @@ ends_room_all setting txns lines game events board fresh shows room =
     (subst (λ (g : Game). HasRoom setting txns (fold (λ game (txn : ℕ). ends_one setting txns game) g txns)) (sym shows.game_is)
     (subst (λ (g : Game). HasRoom setting txns (fold (λ game (txn : ℕ). ends_one setting txns game) (fold (takes_line setting txns) g lines) txns)) (sym fresh) room))
 
-pub all_shows : (setting : Setting) (txns : List ℕ) (lines : List Line) (game : Game) (events new_events : List Event) (board new_board : BoardView) → game ≡ opening_game setting txns →
+pub all_shows : (setting : Setting) (txns : List ℕ) (lines : List Line) (game : Game) (events new_events : List Event) (board new_board : BoardView) →
+    game ≡ opening_game setting txns →
     Shows setting txns events board (fold (takes_line setting txns) game lines) →
     Shows setting (numbers_on board) new_events new_board (fold (λ game (txn : ℕ). ends_one setting (numbers_on board) game) (game_on events board) (numbers_on board)) →
     Shows setting txns new_events new_board (played setting txns lines)
@@ -165,7 +175,8 @@ all_shows setting txns lines game events new_events board new_board fresh first 
 
 -- The first board.
 
-opening_turns : (setting : Setting) (txns : List ℕ) → turns_of (map (λ txn. opening_seat setting.plan.trees txn []) txns) ≡ map (λ txn. opening_turn setting txn []) txns
+opening_turns : (setting : Setting) (txns : List ℕ) →
+    turns_of (map (λ txn. opening_seat setting.plan.trees txn []) txns) ≡ map (λ txn. opening_turn setting txn []) txns
 opening_turns setting [] = refl
 opening_turns setting (txn ∷ txns) = ap (λ (ts : List Turn). opening_turn setting txn [] ∷ ts) (opening_turns setting txns)
 
@@ -177,7 +188,8 @@ opening_wishes : (setting : Setting) (txns : List ℕ) → wishes_in (map (λ tx
 opening_wishes setting [] = refl
 opening_wishes setting (txn ∷ txns) = opening_wishes setting txns
 
-pub opening_shows : (setting : Setting) (txns : List ℕ) (board : BoardView) → IsStrictlySortedBy nat_cmp txns → AllByRecursion (λ n. 1 ≤ n) txns →
+pub opening_shows : (setting : Setting) (txns : List ℕ) (board : BoardView) → IsStrictlySortedBy nat_cmp txns →
+    AllByRecursion (λ n. 1 ≤ n) txns →
     board ≡ record { seats = map (λ txn. opening_seat setting.plan.trees txn []) txns; registry = []; released = false } → Shows setting txns [] board (opening_game setting txns)
 opening_shows setting txns board sorted numbered is =
     subst (λ (b : BoardView). Shows setting txns [] b (opening_game setting txns)) (sym is) (record {

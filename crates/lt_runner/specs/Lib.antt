@@ -20,5 +20,4 @@ pub mod Due
 pub mod Nothing
 pub mod Settles
 pub mod Board
-pub mod AtOnce
 pub mod Transcript

@@ -22,7 +22,8 @@ impl Turn {
         requires left { self.old.turn.outcome ≡ None → self.old.turn.lines ≢ [] }
         requires may { MayPlayAtOnce (Y.setting yard.now) (Y.Pass.view pass.old) self.old.turn }
         ensures acts { HasTable (Y.Pass.origin pass.new) (Y.identity yard.now) (Y.setting yard.now) (Y.Pass.view pass.new) }
-        ensures played { OnOk result (IsPlayedAtOnce (Y.setting yard.now) self.old.turn.lines (Y.Pass.view pass.old).front (Y.Pass.view pass.new).front self.old self.new) }
+        ensures played { OnOk result (IsPlayedAtOnce (Y.setting yard.now) self.old.turn.lines
+            (Y.Pass.view pass.old).front (Y.Pass.view pass.new).front self.old self.new) }
     {
         match self.play(yard, pass) {
             Ok(_) => Ok(()),

@@ -1,5 +1,5 @@
 //! The scheduler's board: all transactions as they are played, and those of them that wait.
-ghost use Rattle.std.specs.Prelude.{◌≡◌, ◌≢◌, ◌<◌, [], ◌∷◌, map, length, false, true, slice_index_or, is_some, option_map, IfOk, OnOk, OnErr};
+ghost use Rattle.std.specs.Prelude.{◌≡◌, ◌<◌, [], map, length, false, slice_index_or, is_some, option_map, IfOk};
 ghost use Rattle.std.specs.List.{find};
 ghost use Rattle.lt_seq.specs.Table.{Setting};
 ghost use Rattle.lt_requests.specs.Registered.{next_above};
@@ -7,7 +7,7 @@ ghost use Rattle.lt_runner.specs.TurnView.{Seat};
 ghost use Rattle.lt_runner.specs.Plays.{next_wish};
 ghost use Rattle.lt_runner.specs.Seats.{opening_seat};
 ghost use Rattle.lt_runner.specs.Serial.{is_ready};
-ghost use Rattle.lt_runner.specs.Board.{BoardView, IsOn, turns_of, turn_on};
+ghost use Rattle.lt_runner.specs.Board.{IsOn, turn_on};
 
 use crate::turn::Turn;
 use lt_requests::{Registry, Wish};
@@ -41,7 +41,8 @@ impl Board {
         numbers: &BTreeSet<u64>,
         trees: u32,
     ) -> Result<Board, AllocError>
-        ensures { IfOk result (λ board. board ≡ record { seats = map (λ txn. opening_seat trees txn []) numbers.now.keys; registry = []; released = false }) }
+        ensures { IfOk result (λ board. board
+            ≡ record { seats = map (λ txn. opening_seat trees txn []) numbers.now.keys; registry = []; released = false }) }
     {
         let mut turns = Vec::new(alloc);
         for txn in numbers {

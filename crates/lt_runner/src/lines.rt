@@ -1,8 +1,8 @@
 //! The next lines of a transaction, by the plain scheduler.
-ghost use Rattle.std.specs.Prelude.{◌≡◌, ◌≢◌, [], None, Some, OnOk, true, is_some};
+ghost use Rattle.std.specs.Prelude.{◌≡◌, None, Some, OnOk, true};
 ghost use Rattle.lt_ranges.specs.Numbers.{is_in};
 ghost use Rattle.lt_runner.specs.Plays.{next_wish};
-ghost use Rattle.lt_runner.specs.Serial.{is_ready, settles, plays_next, plays_on};
+ghost use Rattle.lt_runner.specs.Serial.{settles, plays_next, plays_on};
 ghost use Rattle.lt_runner.specs.Board.{HasTable, IsBoard, Shows, HasRoom, GoesOn, game_on, numbers_on, turn_on, moved};
 
 use crate::board::Board;
@@ -22,7 +22,8 @@ impl Board {
         requires board { IsBoard (Y.setting yard.now) (numbers_on self.old) (Y.Pass.view pass.old).front self.old }
         requires goes { GoesOn (Y.setting yard.now) txn self.old }
         requires plain { next_wish (turn_on (Y.setting yard.now) txn self.old).txn (turn_on (Y.setting yard.now) txn self.old).lines ≡ None }
-        requires room { HasRoom (Y.setting yard.now) (numbers_on self.old) (moved (Y.setting yard.now) txn (game_on (Y.Pass.view pass.old).front self.old)) }
+        requires room { HasRoom (Y.setting yard.now) (numbers_on self.old)
+            (moved (Y.setting yard.now) txn (game_on (Y.Pass.view pass.old).front self.old)) }
         ensures acts { HasTable (Y.Pass.origin pass.new) (Y.identity yard.now) (Y.setting yard.now) (Y.Pass.view pass.new) }
         ensures comes { OnOk result (Shows (Y.setting yard.now) (numbers_on self.old) (Y.Pass.view pass.new).front self.new
             (moved (Y.setting yard.now) txn (game_on (Y.Pass.view pass.old).front self.old))) }
@@ -42,8 +43,10 @@ impl Board {
         requires acts { HasTable (Y.Pass.origin pass.old) (Y.identity yard.now) (Y.setting yard.now) (Y.Pass.view pass.old) }
         requires board { IsBoard (Y.setting yard.now) (numbers_on self.old) (Y.Pass.view pass.old).front self.old }
         requires goes { GoesOn (Y.setting yard.now) txn self.old }
-        requires lock { next_wish (turn_on (Y.setting yard.now) txn self.old).txn (turn_on (Y.setting yard.now) txn self.old).lines ≡ Some wish.now }
-        requires room { HasRoom (Y.setting yard.now) (numbers_on self.old) (moved (Y.setting yard.now) txn (game_on (Y.Pass.view pass.old).front self.old)) }
+        requires lock { next_wish (turn_on (Y.setting yard.now) txn self.old).txn (turn_on (Y.setting yard.now) txn self.old).lines
+            ≡ Some wish.now }
+        requires room { HasRoom (Y.setting yard.now) (numbers_on self.old)
+            (moved (Y.setting yard.now) txn (game_on (Y.Pass.view pass.old).front self.old)) }
         ensures acts { HasTable (Y.Pass.origin pass.new) (Y.identity yard.now) (Y.setting yard.now) (Y.Pass.view pass.new) }
         ensures comes { OnOk result (Shows (Y.setting yard.now) (numbers_on self.old) (Y.Pass.view pass.new).front self.new
             (moved (Y.setting yard.now) txn (game_on (Y.Pass.view pass.old).front self.old))) }
@@ -58,7 +61,8 @@ impl Board {
         requires acts { HasTable (Y.Pass.origin pass.old) (Y.identity yard.now) (Y.setting yard.now) (Y.Pass.view pass.old) }
         requires board { IsBoard (Y.setting yard.now) (numbers_on self.old) (Y.Pass.view pass.old).front self.old }
         requires goes { GoesOn (Y.setting yard.now) txn self.old }
-        requires room { HasRoom (Y.setting yard.now) (numbers_on self.old) (moved (Y.setting yard.now) txn (game_on (Y.Pass.view pass.old).front self.old)) }
+        requires room { HasRoom (Y.setting yard.now) (numbers_on self.old)
+            (moved (Y.setting yard.now) txn (game_on (Y.Pass.view pass.old).front self.old)) }
         ensures acts { HasTable (Y.Pass.origin pass.new) (Y.identity yard.now) (Y.setting yard.now) (Y.Pass.view pass.new) }
         ensures comes { OnOk result (Shows (Y.setting yard.now) (numbers_on self.old) (Y.Pass.view pass.new).front self.new
             (moved (Y.setting yard.now) txn (game_on (Y.Pass.view pass.old).front self.old))) }
@@ -104,7 +108,8 @@ impl Board {
         requires acts { HasTable (Y.Pass.origin pass.old) (Y.identity yard.now) (Y.setting yard.now) (Y.Pass.view pass.old) }
         requires board { IsBoard (Y.setting yard.now) (numbers_on self.old) (Y.Pass.view pass.old).front self.old }
         requires goes { GoesOn (Y.setting yard.now) txn self.old }
-        requires room { HasRoom (Y.setting yard.now) (numbers_on self.old) (plays_next (Y.setting yard.now) txn (game_on (Y.Pass.view pass.old).front self.old)) }
+        requires room { HasRoom (Y.setting yard.now) (numbers_on self.old)
+            (plays_next (Y.setting yard.now) txn (game_on (Y.Pass.view pass.old).front self.old)) }
         ensures acts { HasTable (Y.Pass.origin pass.new) (Y.identity yard.now) (Y.setting yard.now) (Y.Pass.view pass.new) }
         ensures comes { OnOk result (Shows (Y.setting yard.now) (numbers_on self.old) (Y.Pass.view pass.new).front self.new
             (plays_next (Y.setting yard.now) txn (game_on (Y.Pass.view pass.old).front self.old))) }

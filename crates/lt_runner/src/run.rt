@@ -40,10 +40,12 @@ impl Board {
         requires acts { HasTable (Y.Pass.origin pass.old) (Y.identity yard.now) (Y.setting yard.now) (Y.Pass.view pass.old) }
         requires board { IsBoard (Y.setting yard.now) (numbers_on self.old) (Y.Pass.view pass.old).front self.old }
         requires room { HasRoom (Y.setting yard.now) (numbers_on self.old)
-            (fold (λ game (txn : ℕ). ends_one (Y.setting yard.now) (numbers_on self.old) game) (game_on (Y.Pass.view pass.old).front self.old) (numbers_on self.old)) }
+            (fold (λ game (txn : ℕ). ends_one (Y.setting yard.now) (numbers_on self.old) game)
+            (game_on (Y.Pass.view pass.old).front self.old) (numbers_on self.old)) }
         ensures acts { HasTable (Y.Pass.origin pass.new) (Y.identity yard.now) (Y.setting yard.now) (Y.Pass.view pass.new) }
         ensures comes { OnOk result (Shows (Y.setting yard.now) (numbers_on self.old) (Y.Pass.view pass.new).front self.new
-            (fold (λ game (txn : ℕ). ends_one (Y.setting yard.now) (numbers_on self.old) game) (game_on (Y.Pass.view pass.old).front self.old) (numbers_on self.old))) }
+            (fold (λ game (txn : ℕ). ends_one (Y.setting yard.now) (numbers_on self.old) game)
+            (game_on (Y.Pass.view pass.old).front self.old) (numbers_on self.old))) }
     {
         for _round in 0..self.how_many() {
             self.end_one(yard, pass)?;

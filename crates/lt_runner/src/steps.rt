@@ -1,5 +1,5 @@
 //! The steps of the plain scheduler: a line of the trace, and, behind the last line, one transaction that is ended.
-ghost use Rattle.std.specs.Prelude.{◌≡◌, OnOk, is_some};
+ghost use Rattle.std.specs.Prelude.{OnOk};
 ghost use Rattle.std.specs.List.{find};
 ghost use Rattle.lt_runner.specs.Serial.{is_ready, added, takes_line, ends_first, ends_one};
 ghost use Rattle.lt_runner.specs.Steps.{IsFit};
@@ -27,10 +27,12 @@ impl Board {
         requires board { IsBoard (Y.setting yard.now) (numbers_on self.old) (Y.Pass.view pass.old).front self.old }
         requires line { IsFit (Y.setting yard.now) (numbers_on self.old) line.now }
         requires room { HasRoom (Y.setting yard.now) (numbers_on self.old)
-            (added (Y.setting yard.now) line.now (turn_on (Y.setting yard.now) line.now.txn self.old) (game_on (Y.Pass.view pass.old).front self.old)) }
+            (added (Y.setting yard.now) line.now (turn_on (Y.setting yard.now) line.now.txn self.old)
+            (game_on (Y.Pass.view pass.old).front self.old)) }
         ensures acts { HasTable (Y.Pass.origin pass.new) (Y.identity yard.now) (Y.setting yard.now) (Y.Pass.view pass.new) }
         ensures comes { OnOk result (Shows (Y.setting yard.now) (numbers_on self.old) (Y.Pass.view pass.new).front self.new
-            (added (Y.setting yard.now) line.now (turn_on (Y.setting yard.now) line.now.txn self.old) (game_on (Y.Pass.view pass.old).front self.old))) }
+            (added (Y.setting yard.now) line.now (turn_on (Y.setting yard.now) line.now.txn self.old)
+            (game_on (Y.Pass.view pass.old).front self.old))) }
     {
         if self.has_ended(line.txn) {
             return Ok(());
@@ -67,10 +69,12 @@ impl Board {
         requires acts { HasTable (Y.Pass.origin pass.old) (Y.identity yard.now) (Y.setting yard.now) (Y.Pass.view pass.old) }
         requires board { IsBoard (Y.setting yard.now) (numbers_on self.old) (Y.Pass.view pass.old).front self.old }
         requires room { HasRoom (Y.setting yard.now) (numbers_on self.old)
-            (ends_first (Y.setting yard.now) (numbers_on self.old) (find is_ready (turns_of self.old.seats)) (game_on (Y.Pass.view pass.old).front self.old)) }
+            (ends_first (Y.setting yard.now) (numbers_on self.old) (find is_ready (turns_of self.old.seats))
+            (game_on (Y.Pass.view pass.old).front self.old)) }
         ensures acts { HasTable (Y.Pass.origin pass.new) (Y.identity yard.now) (Y.setting yard.now) (Y.Pass.view pass.new) }
         ensures comes { OnOk result (Shows (Y.setting yard.now) (numbers_on self.old) (Y.Pass.view pass.new).front self.new
-            (ends_first (Y.setting yard.now) (numbers_on self.old) (find is_ready (turns_of self.old.seats)) (game_on (Y.Pass.view pass.old).front self.old))) }
+            (ends_first (Y.setting yard.now) (numbers_on self.old) (find is_ready (turns_of self.old.seats))
+            (game_on (Y.Pass.view pass.old).front self.old))) }
     {
         let Some(txn) = self.first_ready() else {
             return self.sweep(yard, pass);

@@ -20,7 +20,8 @@ impl Board {
         requires board { IsBoard (Y.setting yard.now) (numbers_on self.old) (Y.Pass.view pass.old).front self.old }
         requires number { is_in txn (numbers_on self.old) ≡ true }
         requires waits { is_waiting (turn_on (Y.setting yard.now) txn self.old) ≡ true }
-        requires room { HasRoom (Y.setting yard.now) (numbers_on self.old) (moved (Y.setting yard.now) txn (game_on (Y.Pass.view pass.old).front self.old)) }
+        requires room { HasRoom (Y.setting yard.now) (numbers_on self.old)
+            (moved (Y.setting yard.now) txn (game_on (Y.Pass.view pass.old).front self.old)) }
         ensures acts { HasTable (Y.Pass.origin pass.new) (Y.identity yard.now) (Y.setting yard.now) (Y.Pass.view pass.new) }
         ensures comes { OnOk result (Shows (Y.setting yard.now) (numbers_on self.old) (Y.Pass.view pass.new).front self.new
             (moved (Y.setting yard.now) txn (game_on (Y.Pass.view pass.old).front self.old))) }
@@ -36,7 +37,8 @@ impl Board {
         requires board { IsBoard (Y.setting yard.now) (numbers_on self.old) (Y.Pass.view pass.old).front self.old }
         requires number { is_in txn (numbers_on self.old) ≡ true }
         requires waits { is_waiting (turn_on (Y.setting yard.now) txn self.old) ≡ true }
-        requires room { HasRoom (Y.setting yard.now) (numbers_on self.old) (retried (Y.setting yard.now) (game_on (Y.Pass.view pass.old).front self.old) txn) }
+        requires room { HasRoom (Y.setting yard.now) (numbers_on self.old) (retried (Y.setting yard.now)
+            (game_on (Y.Pass.view pass.old).front self.old) txn) }
         ensures acts { HasTable (Y.Pass.origin pass.new) (Y.identity yard.now) (Y.setting yard.now) (Y.Pass.view pass.new) }
         ensures comes { OnOk result (Shows (Y.setting yard.now) (numbers_on self.old) (Y.Pass.view pass.new).front self.new
             (retried (Y.setting yard.now) (game_on (Y.Pass.view pass.old).front self.old) txn)) }
@@ -50,7 +52,8 @@ impl Board {
     pub(crate) fn sweep<Y: Yard>(&mut self, yard: &Y, pass: &mut Y::Pass) -> Result<(), AllocError>
         requires acts { HasTable (Y.Pass.origin pass.old) (Y.identity yard.now) (Y.setting yard.now) (Y.Pass.view pass.old) }
         requires board { IsBoard (Y.setting yard.now) (numbers_on self.old) (Y.Pass.view pass.old).front self.old }
-        requires room { HasRoom (Y.setting yard.now) (numbers_on self.old) (swept (Y.setting yard.now) (numbers_on self.old) (game_on (Y.Pass.view pass.old).front self.old)) }
+        requires room { HasRoom (Y.setting yard.now) (numbers_on self.old) (swept (Y.setting yard.now) (numbers_on self.old)
+            (game_on (Y.Pass.view pass.old).front self.old)) }
         ensures acts { HasTable (Y.Pass.origin pass.new) (Y.identity yard.now) (Y.setting yard.now) (Y.Pass.view pass.new) }
         ensures comes { OnOk result (Shows (Y.setting yard.now) (numbers_on self.old) (Y.Pass.view pass.new).front self.new
             (swept (Y.setting yard.now) (numbers_on self.old) (game_on (Y.Pass.view pass.old).front self.old))) }
@@ -68,7 +71,8 @@ impl Board {
     pub(crate) fn settle<Y: Yard>(&mut self, yard: &Y, pass: &mut Y::Pass) -> Result<(), AllocError>
         requires acts { HasTable (Y.Pass.origin pass.old) (Y.identity yard.now) (Y.setting yard.now) (Y.Pass.view pass.old) }
         requires board { IsBoard (Y.setting yard.now) (numbers_on self.old) (Y.Pass.view pass.old).front self.old }
-        requires room { HasRoom (Y.setting yard.now) (numbers_on self.old) (settled (Y.setting yard.now) (numbers_on self.old) (game_on (Y.Pass.view pass.old).front self.old)) }
+        requires room { HasRoom (Y.setting yard.now) (numbers_on self.old) (settled (Y.setting yard.now) (numbers_on self.old)
+            (game_on (Y.Pass.view pass.old).front self.old)) }
         ensures acts { HasTable (Y.Pass.origin pass.new) (Y.identity yard.now) (Y.setting yard.now) (Y.Pass.view pass.new) }
         ensures comes { OnOk result (Shows (Y.setting yard.now) (numbers_on self.old) (Y.Pass.view pass.new).front self.new
             (settled (Y.setting yard.now) (numbers_on self.old) (game_on (Y.Pass.view pass.old).front self.old))) }

@@ -1,6 +1,7 @@
 use Rattle.std.proofs.Common.{◌≡◌, true, is_some, sym, ◌∙◌}
 use Rattle.lt_runner.specs.Board.{BoardView, numbers_on, turn_on}
-use Rattle.lt_runner.proofs.SeatMoveLaws.{seat_in, seat_fits, ended_still, release_places, release_shows_in}
+use Rattle.lt_runner.proofs.SeatMoveLaws.{seat_in, seat_fits}
+use Rattle.lt_runner.proofs.ReleaseMoveLaws.{ended_still, release_places, release_shows_in}
 use Rattle.lt_runner.proofs.board.Board.release.Goals as goal
 
 pub play_alone-requires-clause-fit : goal.play_alone-requires-clause-fit
