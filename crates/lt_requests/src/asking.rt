@@ -36,7 +36,8 @@ pub fn start<Y: Yard>(
     ensures of { Y.Pass.origin pass.new ≡ origin_of (Y.identity yard.now) (Y.setting yard.now) }
     ensures may { MayAsk (Y.setting yard.now).plan.trees registry.new }
     ensures keeps { Keeps (Y.setting yard.now) (Y.Pass.view pass.old) (Y.Pass.view pass.new) }
-    ensures answer { IsStarted (Y.setting yard.now) (bar_for (Y.setting yard.now) big) wish.now registry.old (with_wish wish.now registry.old) registry.old
+    ensures answer { IsStarted (Y.setting yard.now) (bar_for (Y.setting yard.now) big) wish.now registry.old
+        (with_wish wish.now registry.old) registry.old
         (Y.Pass.view pass.old) (Y.Pass.view pass.new) registry.new result }
 {
     if let Err(AllocError) = registry.add(*wish) {
@@ -91,7 +92,8 @@ fn ask_for<Y: Yard>(
     requires wish { may_ask (Y.setting yard.now).plan.trees wish.now ≡ true }
     requires may { MayAsk (Y.setting yard.now).plan.trees registry.old }
     ensures of { Y.Pass.origin pass.new ≡ origin_of (Y.identity yard.now) (Y.setting yard.now) }
-    ensures answer { IsStarted (Y.setting yard.now) (bar_for (Y.setting yard.now) big) wish.now (without wish.now.txn registry.old) registry.old registry.old
+    ensures answer { IsStarted (Y.setting yard.now) (bar_for (Y.setting yard.now) big) wish.now (without wish.now.txn registry.old)
+        registry.old registry.old
         (Y.Pass.view pass.old) (Y.Pass.view pass.new) registry.new result }
 {
     let receipt = match yard.ask(pass, wish.txn, wish.tree, &wish.range, big) {
@@ -135,7 +137,8 @@ fn hold<Y: Yard>(
     requires ascend { IsStrictlyIncreasing owners }
     requires others { is_in txn owners ≡ false }
     ensures of { Y.Pass.origin pass.new ≡ origin_of (Y.identity yard.now) (Y.setting yard.now) }
-    ensures answer { IsHeldAnswer (Y.setting yard.now) txn place owners registry.old (Y.Pass.view pass.old) (Y.Pass.view pass.new) registry.new result }
+    ensures answer { IsHeldAnswer (Y.setting yard.now) txn place owners registry.old (Y.Pass.view pass.old)
+        (Y.Pass.view pass.new) registry.new result }
 {
     match search(alloc, registry, yard, pass, txn, place, owners.as_slice()) {
         Ok(None) => Ok(Started::Waits { owners }),

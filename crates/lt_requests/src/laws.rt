@@ -9,9 +9,12 @@ ghost use Rattle.lt_requests.specs.Registered.{Ascend, txns_of, is_registered, w
 /// one is found then, and taken out again it leaves the others.
 pub fn registered_wishes()
     ensures ascend { (wishes : List Wish) → Ascend wishes → ascending (txns_of wishes) ≡ txns_of wishes }
-    ensures more { (wish : Wish) (wishes : List Wish) → is_registered wish.txn wishes ≡ false → Ascend wishes → Ascend (with_wish wish wishes) }
-    ensures found { (wish : Wish) (wishes : List Wish) → is_registered wish.txn wishes ≡ false → wish_of wish.txn (with_wish wish wishes) ≡ Some wish }
-    ensures left { (wish : Wish) (wishes : List Wish) → is_registered wish.txn wishes ≡ false → without wish.txn (with_wish wish wishes) ≡ wishes }
+    ensures more { (wish : Wish) (wishes : List Wish) → is_registered wish.txn wishes ≡ false → Ascend wishes
+        → Ascend (with_wish wish wishes) }
+    ensures found { (wish : Wish) (wishes : List Wish) → is_registered wish.txn wishes ≡ false
+        → wish_of wish.txn (with_wish wish wishes) ≡ Some wish }
+    ensures left { (wish : Wish) (wishes : List Wish) → is_registered wish.txn wishes ≡ false
+        → without wish.txn (with_wish wish wishes) ≡ wishes }
 {}
 
 /// With all the rights, and with places for the joins of all trees, the ask and a question for each that waits, a start or a

@@ -48,8 +48,10 @@ impl Questions {
         requires ascend { IsStrictlyIncreasing owners.now }
         requires kept { AreKept registry.now self.old.listed.items self.old.asked }
         ensures kept { OnOk result (AreKept registry.now self.new.listed.items self.new.asked) }
-        ensures listed { OnOk result (self.new.listed.items ≡ self.old.listed.items ++ new_wishes txn self.old.listed.items (wishes_of owners.now registry.now)) }
-        ensures edges { OnOk result (self.new.edges.items ≡ self.old.edges.items ++ edges_of waiter place (wishes_of owners.now registry.now)) }
+        ensures listed { OnOk result (self.new.listed.items ≡ self.old.listed.items
+            ++ new_wishes txn self.old.listed.items (wishes_of owners.now registry.now)) }
+        ensures edges { OnOk result (self.new.edges.items ≡ self.old.edges.items
+            ++ edges_of waiter place (wishes_of owners.now registry.now)) }
     {
         let named = registry.named(alloc, owners)?;
         self.draw(waiter, place, &named)?;
@@ -92,7 +94,8 @@ impl Questions {
         requires waiting { is_registered wish.now.txn registry.now ≡ true }
         requires kept { AreKept registry.now self.old.listed.items self.old.asked }
         ensures kept { OnOk result (AreKept registry.now self.new.listed.items self.new.asked) }
-        ensures listed { OnOk result (self.new.listed.items ≡ self.old.listed.items ++ new_wishes txn self.old.listed.items (wish.now ∷ [])) }
+        ensures listed { OnOk result (self.new.listed.items ≡ self.old.listed.items
+            ++ new_wishes txn self.old.listed.items (wish.now ∷ [])) }
         ensures edges { OnOk result (self.new.edges ≡ self.old.edges) }
     {
         if wish.txn == txn || self.asked.is_waiting(wish.txn) {

@@ -2,7 +2,8 @@
 ghost use Rattle.std.specs.Prelude.{◌≡◌, [], true, false, is_ok, if◌then◌else◌, IfOk, IfErr, All};
 ghost use Rattle.std.specs.List.Sorted.{IsStrictlyIncreasing};
 ghost use Rattle.lt_requests.specs.Search.{wishes_of};
-ghost use Rattle.lt_requests.specs.Registered.{Ascend, is_registered, wish_of, next_above, without, with_wish, IsFoundAt, IsGapAt, IsNextAt};
+ghost use Rattle.lt_requests.specs.Registered.{Ascend, is_registered, wish_of, next_above, without};
+ghost use Rattle.lt_requests.specs.Registered.{with_wish, IsFoundAt, IsGapAt, IsNextAt};
 
 use crate::wish::Wish;
 use std::alloc::{AllocError as OutOfMemory, Global};

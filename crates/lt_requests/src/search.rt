@@ -34,7 +34,8 @@ pub(crate) fn search<Y: Yard>(
     requires ascend { IsStrictlyIncreasing owners.now }
     requires others { is_in txn owners.now ≡ false }
     ensures of { Y.Pass.origin pass.new ≡ origin_of (Y.identity yard.now) (Y.setting yard.now) }
-    ensures answer { SearchAnswers (Y.setting yard.now) txn registry.now place owners.now (Y.Pass.view pass.old) (Y.Pass.view pass.new) result }
+    ensures answer { SearchAnswers (Y.setting yard.now) txn registry.now place owners.now (Y.Pass.view pass.old)
+        (Y.Pass.view pass.new) result }
 {
     let mut questions = Questions::new(alloc);
     if let Err(AllocError) = questions.note(alloc, registry, txn, txn, place, owners) {

@@ -7,7 +7,8 @@ ghost use Rattle.lt_trace.specs.declared.line.LineDeed.TheVariants.{Escalate};
 ghost use Rattle.lt_runner.specs.Turn.{reply_in, asked_at, rest_of_release};
 ghost use Rattle.lt_runner.specs.Seats.{idle};
 ghost use Rattle.lt_runner.specs.Plays.{line_question};
-ghost use Rattle.lt_runner.specs.PlaysOn.{IsAskDeed, IsReady, IsFit, IsNext, IsNextLine, IsNextFree, IsKept, PlaysOn, UnlessShort, IsMoved, moved_to};
+ghost use Rattle.lt_runner.specs.PlaysOn.{IsAskDeed, IsReady, IsFit, IsNext, IsNextLine, IsNextFree};
+ghost use Rattle.lt_runner.specs.PlaysOn.{IsKept, PlaysOn, UnlessShort, IsMoved, moved_to};
 ghost use Rattle.lt_runner.specs.PlaysAlone.{IsCaused, IsAtOnce, IsFreedAtOnce, MayPlayAtOnce};
 
 use crate::release::Release;
@@ -74,7 +75,8 @@ impl Turn {
         ensures of { Y.Pass.origin pass.new ≡ origin_of (Y.identity yard.now) (Y.setting yard.now) }
         ensures kept { IsKept (Y.setting yard.now) (Y.Pass.view pass.old) (Y.Pass.view pass.new) }
         ensures fit { UnlessShort result (IsFit (Y.setting yard.now) self.new) }
-        ensures plays { UnlessShort result (PlaysOn (Y.setting yard.now) [] (Y.Pass.view pass.old) (Y.Pass.view pass.new) self.old self.new) }
+        ensures plays { UnlessShort result (PlaysOn (Y.setting yard.now) [] (Y.Pass.view pass.old) (Y.Pass.view pass.new)
+            self.old self.new) }
         ensures moved { IsMoved self.old self.new result }
         ensures caused { IsCaused (Y.setting yard.now) (Y.Pass.view pass.old) (Y.Pass.view pass.new) result }
         ensures alone { IsAtOnce (Y.setting yard.now) (Y.Pass.view pass.old) (Y.Pass.view pass.new) self.old self.new result }
@@ -114,7 +116,8 @@ impl Turn {
         ensures of { Y.Pass.origin pass.new ≡ origin_of (Y.identity yard.now) (Y.setting yard.now) }
         ensures kept { IsKept (Y.setting yard.now) (Y.Pass.view pass.old) (Y.Pass.view pass.new) }
         ensures fit { UnlessShort result (IsFit (Y.setting yard.now) self.new) }
-        ensures plays { UnlessShort result (PlaysOn (Y.setting yard.now) [] (Y.Pass.view pass.old) (Y.Pass.view pass.new) self.old self.new) }
+        ensures plays { UnlessShort result (PlaysOn (Y.setting yard.now) [] (Y.Pass.view pass.old) (Y.Pass.view pass.new)
+            self.old self.new) }
         ensures moved { IsMoved self.old self.new result }
         ensures caused { IsCaused (Y.setting yard.now) (Y.Pass.view pass.old) (Y.Pass.view pass.new) result }
         ensures alone { IsAtOnce (Y.setting yard.now) (Y.Pass.view pass.old) (Y.Pass.view pass.new) self.old self.new result }
@@ -142,7 +145,8 @@ impl Turn {
         ensures of { Y.Pass.origin pass.new ≡ origin_of (Y.identity yard.now) (Y.setting yard.now) }
         ensures kept { IsKept (Y.setting yard.now) (Y.Pass.view pass.old) (Y.Pass.view pass.new) }
         ensures fit { UnlessShort result (IsFit (Y.setting yard.now) self.new) }
-        ensures plays { UnlessShort result (PlaysOn (Y.setting yard.now) [] (Y.Pass.view pass.old) (Y.Pass.view pass.new) self.old self.new) }
+        ensures plays { UnlessShort result (PlaysOn (Y.setting yard.now) [] (Y.Pass.view pass.old) (Y.Pass.view pass.new)
+            self.old self.new) }
         ensures moved { IsMoved self.old self.new result }
         ensures caused { IsCaused (Y.setting yard.now) (Y.Pass.view pass.old) (Y.Pass.view pass.new) result }
         ensures alone { IsAtOnce (Y.setting yard.now) (Y.Pass.view pass.old) (Y.Pass.view pass.new) self.old self.new result }
@@ -183,8 +187,10 @@ impl Turn {
         ensures of { Y.Pass.origin pass.new ≡ origin_of (Y.identity yard.now) (Y.setting yard.now) }
         ensures kept { IsKept (Y.setting yard.now) (Y.Pass.view pass.old) (Y.Pass.view pass.new) }
         ensures fit { UnlessShort result (IsFit (Y.setting yard.now) self.new) }
-        ensures plays { UnlessShort result (PlaysOn (Y.setting yard.now) [] (Y.Pass.view pass.old) (Y.Pass.view pass.new) self.old self.new) }
-        ensures freed { IfOk result (λ moved. self.new ≡ record self.old { turn = record self.old.turn { releases = rest_of_release self.old.turn.releases }; busy = false }) }
+        ensures plays { UnlessShort result (PlaysOn (Y.setting yard.now) [] (Y.Pass.view pass.old) (Y.Pass.view pass.new)
+            self.old self.new) }
+        ensures freed { IfOk result (λ moved. self.new
+            ≡ record self.old { turn = record self.old.turn { releases = rest_of_release self.old.turn.releases }; busy = false }) }
         ensures caused { IsCaused (Y.setting yard.now) (Y.Pass.view pass.old) (Y.Pass.view pass.new) result }
         ensures alone { MayPlayAtOnce (Y.setting yard.now) (Y.Pass.view pass.old) self.old.turn
             → IsFreedAtOnce (Y.setting yard.now) (Y.Pass.view pass.old) (Y.Pass.view pass.new) self.old.turn release.now result }
@@ -213,7 +219,8 @@ impl Turn {
         ensures of { Y.Pass.origin pass.new ≡ origin_of (Y.identity yard.now) (Y.setting yard.now) }
         ensures kept { IsKept (Y.setting yard.now) (Y.Pass.view pass.old) (Y.Pass.view pass.new) }
         ensures fit { UnlessShort result (IsFit (Y.setting yard.now) self.new) }
-        ensures plays { UnlessShort result (PlaysOn (Y.setting yard.now) [] (Y.Pass.view pass.old) (Y.Pass.view pass.new) self.old self.new) }
+        ensures plays { UnlessShort result (PlaysOn (Y.setting yard.now) [] (Y.Pass.view pass.old) (Y.Pass.view pass.new)
+            self.old self.new) }
         ensures moved { IsMoved self.old self.new result }
         ensures caused { IsCaused (Y.setting yard.now) (Y.Pass.view pass.old) (Y.Pass.view pass.new) result }
         ensures alone { IsAtOnce (Y.setting yard.now) (Y.Pass.view pass.old) (Y.Pass.view pass.new) self.old self.new result }
@@ -248,7 +255,8 @@ impl Turn {
         ensures of { Y.Pass.origin pass.new ≡ origin_of (Y.identity yard.now) (Y.setting yard.now) }
         ensures kept { IsKept (Y.setting yard.now) (Y.Pass.view pass.old) (Y.Pass.view pass.new) }
         ensures fit { UnlessShort result (IsFit (Y.setting yard.now) self.new) }
-        ensures plays { UnlessShort result (PlaysOn (Y.setting yard.now) [] (Y.Pass.view pass.old) (Y.Pass.view pass.new) self.old self.new) }
+        ensures plays { UnlessShort result (PlaysOn (Y.setting yard.now) [] (Y.Pass.view pass.old) (Y.Pass.view pass.new)
+            self.old self.new) }
         ensures moved { IsMoved self.old self.new result }
         ensures caused { IsCaused (Y.setting yard.now) (Y.Pass.view pass.old) (Y.Pass.view pass.new) result }
         ensures alone { IsAtOnce (Y.setting yard.now) (Y.Pass.view pass.old) (Y.Pass.view pass.new) self.old self.new result }

@@ -21,7 +21,8 @@ pub fn worked_rows()
 /// played to its end and no other has an event, with a lawful table at every point and refusals that name exactly the
 /// other owners.
 pub fn serial_is_a_run()
-    ensures { (trace : TraceView) (first : ℕ) → IsTrace trace → IsRunText false (setting_of trace 1 first) trace.lines (ran_text (serial trace first)) }
+    ensures { (trace : TraceView) (first : ℕ) → IsTrace trace
+        → IsRunText false (setting_of trace 1 first) trace.lines (ran_text (serial trace first)) }
 {}
 
 /// Where a transaction waits and every pair is owned by one that waits, a sweep grants or ends at least one: in it all that

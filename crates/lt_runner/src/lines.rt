@@ -21,7 +21,8 @@ impl Board {
         requires acts { HasTable (Y.Pass.origin pass.old) (Y.identity yard.now) (Y.setting yard.now) (Y.Pass.view pass.old) }
         requires board { IsBoard (Y.setting yard.now) (numbers_on self.old) (Y.Pass.view pass.old).front self.old }
         requires goes { GoesOn (Y.setting yard.now) txn self.old }
-        requires plain { next_wish (turn_on (Y.setting yard.now) txn self.old).txn (turn_on (Y.setting yard.now) txn self.old).lines ≡ None }
+        requires plain { next_wish (turn_on (Y.setting yard.now) txn self.old).txn (turn_on (Y.setting yard.now) txn self.old).lines
+            ≡ None }
         requires room { HasRoom (Y.setting yard.now) (numbers_on self.old)
             (moved (Y.setting yard.now) txn (game_on (Y.Pass.view pass.old).front self.old)) }
         ensures acts { HasTable (Y.Pass.origin pass.new) (Y.identity yard.now) (Y.setting yard.now) (Y.Pass.view pass.new) }

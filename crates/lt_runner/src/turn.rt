@@ -1,5 +1,6 @@
 //! A transaction as it is played, line by line.
-ghost use Rattle.std.specs.Prelude.{◌≡◌, ◌<◌, ◌≤◌, List, [], ◌∷◌, ◌++◌, None, Some, Option, true, false, filter, length, is_some, is_none, IfOk, OnOk, OnErr, IfSome, IfNone, IsTrue, ◌==◌};
+ghost use Rattle.std.specs.Prelude.{◌≡◌, ◌<◌, ◌≤◌, List, [], ◌∷◌, ◌++◌, None, Some, Option, true, false};
+ghost use Rattle.std.specs.Prelude.{filter, length, is_some, is_none, IfOk, OnOk, OnErr, IfSome, IfNone, IsTrue, ◌==◌};
 ghost use Rattle.std.specs.Option.{option_copied};
 ghost use Rattle.lt_trace.specs.declared.line.Line.{Line as LineOf};
 ghost use Rattle.lt_runner.specs.declared.release.Release.{Release as ReleaseOf};
@@ -205,7 +206,8 @@ impl Turn {
 
     /// The next free was made.
     pub(crate) fn freed(&mut self)
-        ensures { self.new ≡ record self.old { turn = record self.old.turn { releases = rest_of_release self.old.turn.releases }; busy = false } }
+        ensures { self.new
+            ≡ record self.old { turn = record self.old.turn { releases = rest_of_release self.old.turn.releases }; busy = false } }
     {
         self.releases.pop_front();
         self.busy = false;
