@@ -42,7 +42,7 @@ pub record IsNumber (text : List ℕ) (least most n : ℕ) : Type 0 where
   pub from : least ≤ n
   pub up_to : n ≤ most
 
--- The header: four lines, each a word and a number. There are no buffers yet.
+-- The header: four lines, each a word and a number.
 
 pub record HeaderForm : Type 0 where
   pub word : List ℕ
@@ -54,7 +54,7 @@ header_forms =
     record { word = codes "rangelock"; least = 1; most = 2 }
     ∷ record { word = codes "trees"; least = 1; most = 16 }
     ∷ record { word = codes "limit"; least = 1; most = 65536 }
-    ∷ record { word = codes "buffer"; least = 0; most = 0 } ∷ []
+    ∷ record { word = codes "buffer"; least = 0; most = 65536 } ∷ []
 
 -- the numbers are those of the first header lines
 abbrev pub AreInForm : List HeaderForm → List ℕ → Type 0
@@ -98,14 +98,18 @@ IsKeyForm version key = HasKind version key × IsOfBytes key
 abbrev pub IsRangeForm : ℕ → Interval → Type 0
 IsRangeForm version range = IsKeyForm version range.left × IsKeyForm version range.right
 
--- The forms of the version that are played. A form that is not played yet has no spelling: its case is empty.
+-- a number that may stand for a tree
+abbrev pub IsTreeForm : ℕ → Type 0
+IsTreeForm tree = tree < 10 ^ 9
+
+-- the deeds that the version has: big transactions come with version 2
 abbrev pub IsDeedForm : ℕ → LineDeed → Type 0
-IsDeedForm version (Try tree range) = (tree < 10 ^ 9) × IsRangeForm version range
-IsDeedForm version (Lock tree range) = ⊥
+IsDeedForm version (Try tree range) = IsTreeForm tree × IsRangeForm version range
+IsDeedForm version (Lock tree range) = IsTreeForm tree × IsRangeForm version range
 IsDeedForm version End = Unit {0}
-IsDeedForm version Abort = ⊥
-IsDeedForm version (Escalate tree) = ⊥
-IsDeedForm version Big = ⊥
+IsDeedForm version Abort = Unit {0}
+IsDeedForm version (Escalate tree) = IsTreeForm tree
+IsDeedForm version Big = 2 ≤ version
 
 -- a line of one of the forms, whatever tree it names, however long its keys are, and whichever comes first
 pub record IsForm (version : ℕ) (line : Line) : Type 0 where

@@ -1,5 +1,5 @@
 -- What is read of a trace on the way.
-use Rattle.std.specs.Prelude.{◌≡◌, ◌≢◌, ℕ, ◌^◌, ◌<◌, List, [], ◌∷◌, ◌++◌, ◌||◌, Option, Some, true, false, codes, decimal}
+use Rattle.std.specs.Prelude.{◌≡◌, ◌≢◌, ℕ, ◌≤◌, List, [], ◌∷◌, ◌++◌, ◌||◌, Option, Some, true, false, codes, decimal}
 use Rattle.std.specs.List.{flat_map}
 use Rattle.lt_ranges.specs.declared.key.Key.{Key}
 use Rattle.lt_ranges.specs.Interval.{Interval}
@@ -15,9 +15,9 @@ use Rattle.lt_trace.specs.declared.form.Said.TheVariants as said
 use Rattle.lt_trace.specs.declared.fault.TraceFault.{TraceFault}
 use Rattle.lt_trace.specs.declared.line.Line.{Line}
 use Rattle.lt_trace.specs.declared.line.LineDeed.{LineDeed}
-use Rattle.lt_trace.specs.declared.line.LineDeed.TheVariants.{Try, End}
+use Rattle.lt_trace.specs.declared.line.LineDeed.TheVariants.{Try, Lock, End, Abort, Escalate, Big}
 use Rattle.lt_trace.specs.Trace.{TraceView}
-use Rattle.lt_trace.specs.Grammar.{HeaderForm, IsKeyForm, IsRangeForm, IsDeedForm, deed_text, line_text, Forms, fault_of_form}
+use Rattle.lt_trace.specs.Grammar.{HeaderForm, IsKeyForm, IsRangeForm, IsTreeForm, IsDeedForm, deed_text, line_text, Forms, fault_of_form}
 use Rattle.lt_trace.specs.Grammar.{Front, IsFront, IsFaultless, IsBodyFault}
 
 -- the form of a header line as the grammar has it
@@ -57,18 +57,30 @@ AreKeysOf version text kept =
 -- and of a tree with a range
 abbrev pub IsNoRange : ℕ → List ℕ → Type 0
 IsNoRange version text =
-    (tree : ℕ) (range : Interval) → tree < 10 ^ 9 → IsRangeForm version range → text ≢ decimal tree ++ range_text range
+    (tree : ℕ) (range : Interval) → IsTreeForm tree → IsRangeForm version range → text ≢ decimal tree ++ range_text range
 
 abbrev pub IsRangeOf : ℕ → List ℕ → ℕ → Ends → Type 0
 IsRangeOf version text tree kept =
-    (range : Interval) × (tree < 10 ^ 9) × IsRangeForm version range × (text ≡ decimal tree ++ range_text range) × AreEnds kept range
+    (range : Interval) × IsTreeForm tree × IsRangeForm version range × (text ≡ decimal tree ++ range_text range) × AreEnds kept range
 
 -- what is kept of a deed
 abbrev pub Says : Said → LineDeed → Type 0
 Says (said.Try tree kept) (Try t range) = (tree ≡ t) × AreEnds kept range
 Says (said.Try tree kept) _ = ⊥
+Says (said.Lock tree kept) (Lock t range) = (tree ≡ t) × AreEnds kept range
+Says (said.Lock tree kept) _ = ⊥
 Says said.End End = Unit {0}
 Says said.End _ = ⊥
+Says said.Abort Abort = Unit {0}
+Says said.Abort _ = ⊥
+Says (said.Escalate tree) (Escalate t) = tree ≡ t
+Says (said.Escalate tree) _ = ⊥
+Says said.Big Big = Unit {0}
+Says said.Big _ = ⊥
+
+-- the text is none of the forms that are one word, behind a transaction and a space
+abbrev pub IsNoWord : ℕ → List ℕ → Type 0
+IsNoWord version text = (text ≢ codes "end") × (text ≢ codes "abort") × (2 ≤ version → text ≢ codes "big")
 
 -- no form of the version has this text behind its transaction and a space, or one has of which this is kept
 abbrev pub IsNoDeed : ℕ → List ℕ → Type 0

@@ -2,8 +2,10 @@
 ghost use Rattle.std.specs.Prelude.{◌≡◌, ◌++◌, ◌∷◌, [], IfOk, IfErr, OnOk, Some, None};
 ghost use Rattle.lt_trace.specs.declared.line.Line.{Line};
 ghost use Rattle.lt_trace.specs.declared.line.LineDeed.{LineDeed};
+ghost use Rattle.lt_trace.specs.declared.line.LineDeed.TheVariants as LineDeed;
+ghost use Rattle.lt_ranges.specs.Interval.{Interval};
 ghost use Rattle.lt_trace.specs.Grammar.{IsForm, line_text, fault_of_deed, fault_of_turn, fault_of_form, OrNoMemory};
-ghost use Rattle.lt_trace.specs.Reading.{Says, IsFormFault};
+ghost use Rattle.lt_trace.specs.Reading.{AreEnds, Says, IsFormFault};
 
 use crate::body::Body;
 use crate::fault::TraceFault;
@@ -16,26 +18,57 @@ use lt_ranges::KeyRange;
 /// The most transactions of a trace.
 pub const MOST_TXNS: usize = 1_024;
 
+/// Refuses a tree that the header's number of trees leaves out.
+fn check_tree(trees: u32, number: u32, tree: u32) -> Result<(), TraceFault>
+    ensures good { OnOk result (fault_of_deed number trees (LineDeed.Escalate tree) ≡ None) }
+    ensures fault { IfErr result (λ f. fault_of_deed number trees (LineDeed.Escalate tree) ≡ Some f) }
+{
+    if tree >= trees {
+        return Err(TraceFault::TreeOutOfRange { line: number });
+    }
+    Ok(())
+}
+
+/// The range that a line names in a tree, unless the tree or the keys are a fault.
+fn range_of(trees: u32, number: u32, tree: u32, ends: Ends) -> Result<KeyRange, TraceFault>
+    ensures found { (range : Interval) → AreEnds ends range →
+        IfOk result (λ found. (found ≡ range) × (fault_of_deed number trees (LineDeed.Try tree range) ≡ None)) }
+    ensures fault { (range : Interval) → AreEnds ends range →
+        IfErr result (λ f. fault_of_deed number trees (LineDeed.Try tree range) ≡ Some f) }
+{
+    check_tree(trees, number, tree)?;
+    let Ends::Fit { left, right } = ends else {
+        return Err(TraceFault::KeyTooLong { line: number });
+    };
+    match KeyRange::new(left, right) {
+        Ok(range) => Ok(range),
+        Err(_) => Err(TraceFault::Backwards { line: number }),
+    }
+}
+
 /// The deed that a line asks for, unless its tree or its keys are a fault.
 fn deed_of(trees: u32, number: u32, said: Said) -> Result<LineDeed, TraceFault>
     ensures found { (deed : LineDeed) → Says said deed →
         IfOk result (λ found. (found ≡ deed) × (fault_of_deed number trees deed ≡ None)) }
     ensures fault { (deed : LineDeed) → Says said deed → IfErr result (λ f. fault_of_deed number trees deed ≡ Some f) }
 {
-    let (tree, ends) = match said {
-        Said::Try { tree, ends } => (tree, ends),
-        Said::End => return Ok(LineDeed::End),
-    };
-    if tree >= trees {
-        return Err(TraceFault::TreeOutOfRange { line: number });
+    match said {
+        Said::Try { tree, ends } => {
+            let range = range_of(trees, number, tree, ends)?;
+            Ok(LineDeed::Try { tree, range })
+        }
+        Said::Lock { tree, ends } => {
+            let range = range_of(trees, number, tree, ends)?;
+            Ok(LineDeed::Lock { tree, range })
+        }
+        Said::End => Ok(LineDeed::End),
+        Said::Abort => Ok(LineDeed::Abort),
+        Said::Escalate { tree } => {
+            check_tree(trees, number, tree)?;
+            Ok(LineDeed::Escalate { tree })
+        }
+        Said::Big => Ok(LineDeed::Big),
     }
-    let Ends::Fit { left, right } = ends else {
-        return Err(TraceFault::KeyTooLong { line: number });
-    };
-    let Ok(range) = KeyRange::new(left, right) else {
-        return Err(TraceFault::Backwards { line: number });
-    };
-    Ok(LineDeed::Try { tree, range })
 }
 
 /// Refuses one more line of the transaction behind these lines where that is a fault.

@@ -29,9 +29,9 @@ pub(crate) const LIMIT: HeaderForm = HeaderForm {
     most: 65_536,
 };
 
-/// The most ranges of a buffer. There are no buffers yet.
+/// The most ranges of a buffer.
 pub(crate) const BUFFER: HeaderForm = HeaderForm {
     word: b"buffer",
     least: 0,
-    most: 0,
+    most: 65_536,
 };

@@ -56,7 +56,7 @@ impl Trace {
         self.header.limit
     }
 
-    /// The most ranges of a buffer; 0 for none.
+    /// The most ranges of a buffer, from 0 to 65,536; 0 for no buffers.
     pub fn buffer(&self) -> u64
         ensures { result ≡ self.now.buffer }
     {

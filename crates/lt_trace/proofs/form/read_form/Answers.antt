@@ -1,29 +1,29 @@
 use Rattle.std.proofs.Common.{◌≡◌, ℕ, List, ◌∷◌, ◌++◌, decimal, refl, sym, ap, ◌∙◌, arith}
 use Rattle.lt_trace.specs.declared.line.Line.{Line}
-use Rattle.lt_trace.specs.Grammar.{IsForm, line_text}
+use Rattle.lt_trace.specs.Grammar.{line_text}
 use Rattle.lt_trace.proofs.FormLaws.{number_once, number_ends, deed_ahead}
 use Rattle.lt_trace.proofs.form.read_form.Goals as goal
 
 -- the text of a line goes on behind its transaction with a space
-spaced_line : (version : ℕ) (line : Line) (text : List ℕ) (form : IsForm version line) → text ≡ line_text line → text ≡ decimal line.txn ++ 32 ∷ (deed_ahead version line.deed form.deed).0
-spaced_line version line text form is = is ∙ ap (λ xs. decimal line.txn ++ xs) (deed_ahead version line.deed form.deed).1
+spaced_line : (line : Line) (text : List ℕ) → text ≡ line_text line → text ≡ decimal line.txn ++ 32 ∷ (deed_ahead line.deed).0
+spaced_line line text is = is ∙ ap (λ xs. decimal line.txn ++ xs) (deed_ahead line.deed).1
 
 pub returns-in_err-digits : goal.returns-in_err-digits
 returns-in_err-digits c = rw c.from_residual.ensures (λ line form is.
-    number_ends line.txn c.args.text.now _ c.in_err-digits.ensures (spaced_line c.args.version line c.args.text.now form is))
+    number_ends line.txn c.args.text.now _ c.in_err-digits.ensures (spaced_line line c.args.text.now is))
 
 pub returns-in_err-txn : goal.returns-in_err-txn
 returns-in_err-txn c = rw c.from_residual-in_err-txn.ensures (λ line form is.
     let cut = c.in_ok-digits.ensures in
-    let once = number_once line.txn c.in_ok-digits.digits.now c.in_ok-digits.rest.now _ form.most cut.0 (sym cut.1 ∙ spaced_line c.args.version line c.args.text.now form is) in
+    let once = number_once line.txn c.in_ok-digits.digits.now c.in_ok-digits.rest.now _ form.most cut.0 (sym cut.1 ∙ spaced_line line c.args.text.now is) in
     let most = form.most in
     c.in_err-txn.ensures.none refl line.txn (record { spelled = once.0; from = form.least; up_to = omega arith }))
 
 pub returns-in_err-said : goal.returns-in_err-said
 returns-in_err-said c = rw c.from_residual-in_err-said.ensures (λ line form is.
     let cut = c.in_ok-digits.ensures in
-    let once = number_once line.txn c.in_ok-digits.digits.now c.in_ok-digits.rest.now _ form.most cut.0 (sym cut.1 ∙ spaced_line c.args.version line c.args.text.now form is) in
-    c.in_err-said.ensures line.deed form.deed (ap (λ xs. 32 ∷ xs) once.1 ∙ sym (deed_ahead c.args.version line.deed form.deed).1))
+    let once = number_once line.txn c.in_ok-digits.digits.now c.in_ok-digits.rest.now _ form.most cut.0 (sym cut.1 ∙ spaced_line line c.args.text.now is) in
+    c.in_err-said.ensures line.deed form.deed (ap (λ xs. 32 ∷ xs) once.1 ∙ sym (deed_ahead line.deed).1))
 
 pub returns : goal.returns
 returns c =
