@@ -3,8 +3,8 @@ use crate::TraceFault::{
     AfterEnd, Backwards, BadHeader, BadLine, KeyTooLong, LineTooLong, NoFinalNewline, TooManyLines,
     TooManyTxns, TreeOutOfRange,
 };
-use crate::{TraceFault, number, read, write};
-use lt_ranges::Key;
+use crate::{LineDeed, TraceFault, number, read, write};
+use lt_ranges::{Key, KeyRange};
 use std::alloc::{AllocError, Global};
 use std::test::Fail;
 
@@ -37,9 +37,6 @@ fn faults_of_body_lines(rt: HostRuntime) -> Result<(), Fail> {
         (b"1 try 0 - + \n", BadLine { line: 5 }),
         (b"1 try 0 \"a\" \"\\x62\"\n", BadLine { line: 5 }),
         (b"1 try 0 \"b\" \"b\"*\n", BadLine { line: 5 }),
-        (b"1 lock 0 - +\n", BadLine { line: 5 }),
-        (b"1 abort\n", BadLine { line: 5 }),
-        (b"1 escalate 0\n", BadLine { line: 5 }),
         (b"1 try 2 \"b\" \"a\"\n", TreeOutOfRange { line: 5 }),
         (b"1 try 0 \"b\" \"a\"\n", Backwards { line: 5 }),
         (b"1 try 0 + -\n", Backwards { line: 5 }),
@@ -55,6 +52,93 @@ fn faults_of_body_lines(rt: HostRuntime) -> Result<(), Fail> {
     for (body, expected) in rows {
         let text = behind(rt.alloc(), HEADER, body)?;
         assert_eq!(rt; fault(rt.alloc(), &text), Some(expected), "{body:?}");
+    }
+    Ok(())
+}
+
+#[test]
+fn faults_of_each_form(rt: HostRuntime) -> Result<(), Fail> {
+    let rows = [
+        (b"1 lock 0 -\n".as_slice(), BadLine { line: 5 }),
+        (b"1 lock 1234567890 - +\n", BadLine { line: 5 }),
+        (b"1 lock 00 - +\n", BadLine { line: 5 }),
+        (b"1 lock 2 \"b\" \"a\"\n", TreeOutOfRange { line: 5 }),
+        (b"1 lock 0 \"b\" \"a\"\n", Backwards { line: 5 }),
+        (b"1 escalate\n", BadLine { line: 5 }),
+        (b"1 escalate \n", BadLine { line: 5 }),
+        (b"1 escalate 01\n", BadLine { line: 5 }),
+        (b"1 escalate 1 \n", BadLine { line: 5 }),
+        (b"1 escalate 0 - +\n", BadLine { line: 5 }),
+        (b"1 escalate 1234567890\n", BadLine { line: 5 }),
+        (b"1 escalate 999999999\n", TreeOutOfRange { line: 5 }),
+        (b"1 escalate 2\n", TreeOutOfRange { line: 5 }),
+        (b"1 abort 0\n", BadLine { line: 5 }),
+        (b"1 abort\n1 end\n", AfterEnd { line: 6 }),
+        (b"1 end\n1 abort\n", AfterEnd { line: 6 }),
+        (b"1 abort\n1 lock 0 - +\n", AfterEnd { line: 6 }),
+        (b"1 abort\n1 escalate 2\n", TreeOutOfRange { line: 6 }),
+        (b"1 abort\n1 escalate 1\n", AfterEnd { line: 6 }),
+        (b"1 abort\n1 lock 0 + -\n", Backwards { line: 6 }),
+    ];
+    for (body, expected) in rows {
+        let text = behind(rt.alloc(), HEADER, body)?;
+        assert_eq!(rt; fault(rt.alloc(), &text), Some(expected), "{body:?}");
+    }
+    Ok(())
+}
+
+/// In the second version, so that a `big` line is one.
+#[test]
+fn words_that_begin_like_others_are_none(rt: HostRuntime) -> Result<(), Fail> {
+    let rows: [&[u8]; 16] = [
+        b"1 e\n",
+        b"1 en\n",
+        b"1 ends\n",
+        b"1 ende\n",
+        b"1 End\n",
+        b"1 abor\n",
+        b"1 aborts\n",
+        b"1 bi\n",
+        b"1 bigger\n",
+        b"1 big 1\n",
+        b"1 escalat 0\n",
+        b"1 escalates 0\n",
+        b"1 try\n",
+        b"1 tryst 0 - +\n",
+        b"1 locks 0 - +\n",
+        b"1 lock0 - +\n",
+    ];
+    for body in rows {
+        let text = behind(rt.alloc(), LATER_HEADER, body)?;
+        assert_eq!(rt;
+            fault(rt.alloc(), &text),
+            Some(BadLine { line: 5 }),
+            "{body:?}"
+        );
+    }
+    Ok(())
+}
+
+#[test]
+fn each_form_is_read(rt: HostRuntime) -> Result<(), Fail> {
+    let text = behind(
+        rt.alloc(),
+        LATER_HEADER,
+        b"3 try 0 - +\n3 lock 1 - +\n3 escalate 1\n3 big\n3 end\n4 abort\n",
+    )?;
+    let range = KeyRange::whole();
+    let deeds = [
+        LineDeed::Try { tree: 0, range },
+        LineDeed::Lock { tree: 1, range },
+        LineDeed::Escalate { tree: 1 },
+        LineDeed::Big,
+        LineDeed::End,
+        LineDeed::Abort,
+    ];
+    let trace = read(rt.alloc(), &text)?;
+    assert_eq!(rt; trace.lines().len(), deeds.len());
+    for (line, deed) in trace.lines().iter().zip(deeds) {
+        assert_eq!(rt; line.deed, deed);
     }
     Ok(())
 }
@@ -76,7 +160,11 @@ fn faults_of_headers(rt: HostRuntime) {
             BadHeader { line: 3 },
         ),
         (
-            b"rangelock 1\ntrees 1\nlimit 64\nbuffer 1\n",
+            b"rangelock 1\ntrees 1\nlimit 64\nbuffer 65537\n",
+            BadHeader { line: 4 },
+        ),
+        (
+            b"rangelock 1\ntrees 1\nlimit 64\nbuffer 00\n",
             BadHeader { line: 4 },
         ),
         (
@@ -91,9 +179,11 @@ fn faults_of_headers(rt: HostRuntime) {
 }
 
 #[test]
-fn faults_of_keys_in_both_versions(rt: HostRuntime) -> Result<(), Fail> {
+fn faults_in_both_versions(rt: HostRuntime) -> Result<(), Fail> {
     const LONG: &[u8] =
         b"1 try 0 \"aaaaaaaaaaaaaaaaaaaaaaaaaaaaaaaaaaaaaaaaaaaaaaaaaaaaaaaaaaaaaaaa\" -\n";
+    const LONG_LOCK: &[u8] =
+        b"1 lock 0 - \"aaaaaaaaaaaaaaaaaaaaaaaaaaaaaaaaaaaaaaaaaaaaaaaaaaaaaaaaaaaaaaaa\"\n";
     const LONG_END: &[u8] =
         b"1 try 0 \"aaaaaaaaaaaaaaaaaaaaaaaaaaaaaaaaaaaaaaaaaaaaaaaaaaaaaaaaaaaaaaaa\"* -\n";
     let rows = [
@@ -106,7 +196,15 @@ fn faults_of_keys_in_both_versions(rt: HostRuntime) -> Result<(), Fail> {
             b"1 try 0 \"b\"* \"b\"\n",
             Backwards { line: 5 },
         ),
-        (LATER_HEADER, b"1 big\n", BadLine { line: 5 }),
+        (HEADER, LONG_LOCK, KeyTooLong { line: 5 }),
+        (HEADER, b"1 lock 0 \"b\" \"b\"*\n", BadLine { line: 5 }),
+        (
+            LATER_HEADER,
+            b"1 lock 0 \"b\"* \"b\"\n",
+            Backwards { line: 5 },
+        ),
+        (HEADER, b"1 big\n", BadLine { line: 5 }),
+        (LATER_HEADER, b"1 big\n1 end\n1 big\n", AfterEnd { line: 7 }),
     ];
     for (header, body, expected) in rows {
         let text = behind(rt.alloc(), header, body)?;
@@ -120,7 +218,7 @@ fn what_is_read_is_written_again(rt: HostRuntime) -> Result<(), Fail> {
     let mut text = behind(
         rt.alloc(),
         LATER_HEADER,
-        b"7 try 1 - +\n7 try 0 \"a b\" \"\"*\n",
+        b"7 try 1 - +\n7 try 0 \"a b\" \"\"*\n8 big\n8 lock 1 \"\" \"\"*\n8 escalate 0\n8 abort\n",
     )?;
     for byte in 0..=255u8 {
         let key = Key::new(&[byte; 63]).or(Err("a key of 63 bytes"))?.text();
@@ -132,7 +230,7 @@ fn what_is_read_is_written_again(rt: HostRuntime) -> Result<(), Fail> {
     }
     text.extend_from_slice(b"7 end\n")?;
     let trace = read(rt.alloc(), &text)?;
-    assert_eq!(rt; trace.lines().len(), 259);
+    assert_eq!(rt; trace.lines().len(), 263);
     assert_eq!(rt; (trace.version(), trace.trees()), (2, 2));
     assert_eq!(rt; (trace.limit(), trace.buffer()), (64, 0));
     let written = write(rt.alloc(), &trace)?;
@@ -143,8 +241,9 @@ fn what_is_read_is_written_again(rt: HostRuntime) -> Result<(), Fail> {
 #[test]
 fn a_text_of_version_1_is_written_again(rt: HostRuntime) -> Result<(), Fail> {
     let text =
-        b"rangelock 1\ntrees 16\nlimit 65536\nbuffer 0\n1 try 15 - \"a\\x00\"\n30 try 0 \"b c\" +\n1 end\n";
+        b"rangelock 1\ntrees 16\nlimit 65536\nbuffer 65536\n1 try 15 - \"a\\x00\"\n30 lock 0 \"b c\" +\n30 escalate 15\n30 abort\n1 end\n";
     let trace = read(rt.alloc(), text)?;
+    assert_eq!(rt; (trace.limit(), trace.buffer()), (65_536, 65_536));
     let written = write(rt.alloc(), &trace)?;
     assert_eq!(rt; written.as_slice(), text.as_slice());
     Ok(())
@@ -163,7 +262,7 @@ fn limits_are_met(rt: HostRuntime) -> Result<(), Fail> {
         many.extend_from_slice(line.as_bytes())?;
     }
     assert_eq!(rt; read(rt.alloc(), &many)?.lines().len(), 1_024);
-    many.extend_from_slice(b"1025 end\n")?;
+    many.extend_from_slice(b"1025 lock 0 - +\n")?;
     assert_eq!(rt; fault(rt.alloc(), &many), Some(TooManyTxns { line: 1_029 }));
 
     let mut long = behind(rt.alloc(), HEADER, b"")?;
