@@ -12,3 +12,5 @@ pub use words::{Command, command_of};
 
 #[cfg(test)]
 mod tests;
+#[cfg(test)]
+mod tests_of_waits;

@@ -5,7 +5,7 @@ use std::alloc::{AllocError, Global};
 use std::test::Fail;
 
 /// The header that stands before the lines of a table.
-const HEADER: &str = "rangelock 1\ntrees 1\nlimit 64\nbuffer 0\n";
+pub(crate) const HEADER: &str = "rangelock 1\ntrees 1\nlimit 64\nbuffer 0\n";
 
 /// The same in the second version.
 const SECOND_HEADER: &str = "rangelock 2\ntrees 1\nlimit 64\nbuffer 0\n";
@@ -37,7 +37,7 @@ fn numbers(alloc: Global, number: Option<u64>) -> Result<Vec<u64>, AllocError> {
 }
 
 /// The status and what was written, where the source's and the sink's calls of these numbers fail.
-fn run_failing(
+pub(crate) fn run_failing(
     alloc: Global,
     words: &[&str],
     input: &str,
@@ -46,12 +46,17 @@ fn run_failing(
 ) -> Result<(u8, Vec<u8>), AllocError> {
     let words = owned(alloc, words)?;
     let mut source = MemSource::new(input.as_bytes().to_vec(alloc)?, 16, numbers(alloc, read)?);
-    let mut sink = MemSink::new(alloc, 4096, 8, numbers(alloc, put)?)?;
+    let mut sink = MemSink::new(alloc, 16_384, 8, numbers(alloc, put)?)?;
     let status = run(alloc, words.as_slice(), &mut source, &mut sink);
     Ok((status, sink.bytes().to_vec(alloc)?))
 }
 
-fn run_serial(alloc: Global, header: &str, lines: &str) -> Result<(u8, Vec<u8>), AllocError> {
+/// The status and what was written on these lines.
+pub(crate) fn run_serial(
+    alloc: Global,
+    header: &str,
+    lines: &str,
+) -> Result<(u8, Vec<u8>), AllocError> {
     let input = format!(in alloc; "{header}{lines}")?;
     run_failing(alloc, &["serial"], input.as_str(), None, None)
 }
