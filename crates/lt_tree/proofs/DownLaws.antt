@@ -1,0 +1,202 @@
+-- One step of a search on its way down.
+use Rattle.std.proofs.Common.{◌≡◌, ◌≢◌, inl, inr, ◌⊎◌, ℕ, zero, suc, ◌+◌, ◌-◌, ◌<◌, ◌≤◌, Bool, true, false, List, [], ◌∷◌, length, set, get_or, refl, sym, ap, ◌∙◌, subst, arith, true≢false}
+use Rattle.std.specs.Prelude.{Option, Some, None, not, ◌&&◌}
+use Rattle.lt_ranges.specs.Interval.{Interval, before, overlap}
+use Rattle.lt_ranges.specs.Key.{key_le}
+use Rattle.lt_seq.specs.declared.event.Event.{Event}
+use Rattle.lt_seq.specs.declared.event.Mode.{Mode}
+use Rattle.lt_seq.specs.declared.event.Mode.TheVariants.{Tree as TreeMode, Buffer}
+use Rattle.lt_forest.specs.Counts.{times}
+use Rattle.lt_forest.specs.Bounds.{IsInside}
+use Rattle.lt_forest.specs.Trees.{Node, Nodes}
+use Rattle.lt_forest.specs.Forest.{IsTree}
+use Rattle.lt_forest.specs.Views.{IsIn}
+use Rattle.lt_forest.specs.Links.{Slot, left_of, right_of, row_with, link_in, IsLink, IsLinkOf, Leads, by_link, and_on}
+use Rattle.lt_forest.proofs.NoWayBack.{placed_links}
+use Rattle.lt_rows.specs.declared.view.View.{View}
+use Rattle.lt_rows.specs.declared.view.Row.{Row}
+use Rattle.lt_rows.specs.declared.view.SeenGap.{SeenGap}
+use Rattle.lt_rows.specs.declared.image.RowImage.{RowImage}
+use Rattle.lt_rows.specs.Nodes.{node_of, mode_of}
+use Rattle.lt_rows.specs.Views.{Holds, IsHeld, row_at, rows_of, has, image_of}
+use Rattle.lt_rows.specs.Gaps.{gap_for}
+use Rattle.lt_rows.specs.Rule.{Stood}
+use Rattle.lt_rows.specs.Woods.{woods}
+use Rattle.lt_rows.specs.Lawful.{shown}
+use Rattle.lt_rows.proofs.Frames.{Some-none}
+use Rattle.lt_rows.proofs.Planned.{row_held, held_row}
+use Rattle.lt_rows.proofs.Lessons.{names_further, none_back, of_anchor, of_gap}
+use Rattle.lt_rows.proofs.Gapped.{gap_at_top, gap_at_left, gap_at_right}
+use Rattle.lt_tree.specs.Descents.{free_rows, HasGapIn, GoesTo, Spot, at_anchor, at_row, IsAbove, Descends}
+
+-- the number of rows not held
+
+pub free_take : (xs : List (Option Row)) (r : ℕ) (row : Row) → get_or xs r None ≡ None → r < length xs → free_rows (set xs r (Some row)) + 1 ≡ free_rows xs
+free_take [] r row none lt = absurd (omega arith)
+free_take (None ∷ xs) zero row none lt = omega arith
+free_take (Some y ∷ xs) zero row none lt = absurd (Some-none y (sym none))
+free_take (None ∷ xs) (suc r) row none lt = let i = free_take xs r row none (omega arith) in omega arith
+free_take (Some y ∷ xs) (suc r) row none lt = free_take xs r row none (omega arith)
+
+pub free_put : (xs : List (Option Row)) (r : ℕ) (row : Row) → get_or xs r None ≡ Some row → free_rows (set xs r None) ≡ free_rows xs + 1
+free_put [] r row some = absurd (Some-none row some)
+free_put (None ∷ xs) zero row some = absurd (Some-none row some)
+free_put (Some y ∷ xs) zero row some = omega arith
+free_put (None ∷ xs) (suc r) row some = let i = free_put xs r row some in omega arith
+free_put (Some y ∷ xs) (suc r) row some = free_put xs r row some
+
+-- ways
+
+pub leads_map : (c e : Nodes) (P Q : Slot → Type 0) {q r : ℕ} → ((s : Slot) → P s → Q s × (link_in e s ≡ link_in c s)) → Leads c P q r → Leads e Q q r
+leads_map c e P Q f (by_link s r p eq) = by_link s r (f s p).0 ((f s p).1 ∙ eq)
+leads_map c e P Q f (and_on s r l p eq) = and_on s r (leads_map c e P Q f l) (f s p).0 ((f s p).1 ∙ eq)
+
+module _ (v : View) (tree : ℕ) (asked : Interval) (here : RowImage) (link steps : ℕ) (above : List ℕ)
+    (d : Descends v tree asked here link steps above) (lt : tree < v.plan.trees) (some : link ≢ 0) where
+  abbrev log : List Event
+  log = d.teaches.0
+
+  abbrev st : Stood (woods v.plan) v (d.teaches.0)
+  st = d.teaches.2
+
+  abbrev mine : Nodes
+  mine = shown v []
+
+  abbrev r : ℕ
+  r = link - 1
+
+  -- the slot with the link
+  abbrev Slotted : Type 0
+  Slotted = (s : Slot) × (row_with s ≡ here.row) × IsLink v.plan.trees st.forest s × (link_in mine s ≡ link)
+
+  left_is : link ≡ (node_of here.words).left → link_in mine (left_of here.row) ≡ link
+  left_is e = ap (λ (ws : List ℕ). (node_of ws).left) d.has.2 ∙ sym e
+
+  right_is : link ≡ (node_of here.words).right → link_in mine (right_of here.row) ≡ link
+  right_is e = ap (λ (ws : List ℕ). (node_of ws).right) d.has.2 ∙ sym e
+
+  slot : Spot v tree asked here link → Slotted
+  slot (at_anchor row mode is) = (left_of here.row, refl, of_anchor v log st here.row (omega arith), left_is is)
+  slot (at_row row g held gap t inside more (inl goes)) = (left_of here.row, refl, (of_gap v log st here.row row g held gap).0, left_is goes.1)
+  slot (at_row row g held gap t inside more (inr goes)) = (right_of here.row, refl, (of_gap v log st here.row row g held gap).1, right_is goes.1)
+
+  abbrev Further : Type 0
+  Further = (v.plan.trees < r) × (r < rows_of v.plan)
+
+  pub further : Further
+  further =
+      let s = slot d.spot in
+      elim (names_further v log st s.0 (subst (IsIn (has v)) (sym s.1) d.has.0) s.2) [
+        | inl z ↦ absurd (some (sym s.3 ∙ z))
+        | inr x ↦ let is = x.1 in let same = s.3 in let more = x.2 in let less = x.3 in (omega arith, omega arith)
+      ]
+
+  -- a link of a row with a gap is one of the tree
+  abbrev Of : Slot → Type 0
+  Of s = IsIn (has v) (row_with s) × IsLinkOf (st.forest.tree tree) s
+
+  of : (s : Slot) → HasGapIn v tree (row_with s) → Of s × (link_in mine s ≡ link_in mine s)
+  of (left_of q) h = ((row_held v q h.0 h.2, subst (λ (n : ℕ). IsLinkOf (st.forest.tree n) (left_of q)) h.4 (placed_links st.shape.forest h.1.tree q (h.1.low, h.1.high) h.1.score (st.gaps q h.0 h.1 h.2 h.3)).0), refl)
+  of (right_of q) h = ((row_held v q h.0 h.2, subst (λ (n : ℕ). IsLinkOf (st.forest.tree n) (right_of q)) h.4 (placed_links st.shape.forest h.1.tree q (h.1.low, h.1.high) h.1.score (st.gaps q h.0 h.1 h.2 h.3)).1), refl)
+
+  -- what leads to the row at which the search is, leads to the child
+  abbrev ToChild : ℕ → Type 0
+  ToChild q = Leads mine (λ s. HasGapIn v tree (row_with s)) q r
+
+  link_r : (x : ℕ) → x ≡ link → x ≡ r + 1
+  link_r x e = omega arith
+
+  child_below : (row : Row) (g : SeenGap) → Holds v here.row row → row.gap ≡ Some g → g.tree ≡ tree → GoesTo asked (node_of here.words) link → ToChild here.row
+  child_below row g held gap t (inl goes) = by_link (left_of here.row) r (row, g, held, gap, t) (link_r _ (left_is goes.1))
+  child_below row g held gap t (inr goes) = by_link (right_of here.row) r (row, g, held, gap, t) (link_r _ (right_is goes.1))
+
+  child_on : (q : ℕ) (row : Row) (g : SeenGap) → Holds v here.row row → row.gap ≡ Some g → g.tree ≡ tree → GoesTo asked (node_of here.words) link → Leads mine (λ s. HasGapIn v tree (row_with s)) q here.row → ToChild q
+  child_on q row g held gap t (inl goes) l = and_on (left_of here.row) r l (row, g, held, gap, t) (link_r _ (left_is goes.1))
+  child_on q row g held gap t (inr goes) l = and_on (right_of here.row) r l (row, g, held, gap, t) (link_r _ (right_is goes.1))
+
+  -- each held row is the anchor or leads to the child
+  pub leads_on : (q : ℕ) → IsHeld v q → (q ≡ tree) ⊎ ToChild q
+  leads_on q h = go d.spot (d.held q h)
+    where
+      at : (row : Row) (g : SeenGap) → Holds v here.row row → row.gap ≡ Some g → g.tree ≡ tree → GoesTo asked (node_of here.words) link → IsAbove v tree q here.row → (q ≡ tree) ⊎ ToChild q
+      at row g held gap t goes (there, inl is) = inl is
+      at row g held gap t goes (there, inr leads) = inr (child_on q row g held gap t goes leads.1)
+
+      top : here.row ≡ tree → IsAbove v tree q here.row → (q ≡ tree) ⊎ ToChild q
+      top is (there, inl same) = inl same
+      top is (there, inr leads) = let more = leads.0 in absurd (omega arith)
+
+      go : Spot v tree asked here link → (q ≡ here.row) ⊎ (0 < times q above) → (q ≡ tree) ⊎ ToChild q
+      go (at_anchor row mode is) (inl same) = inl (same ∙ row)
+      go (at_anchor row mode is) (inr more) = top row (d.kept q more)
+      go (at_row row g held gap t inside further_row goes) (inl same) = inr (subst ToChild (sym same) (child_below row g held gap t goes))
+      go (at_row row g held gap t inside further_row goes) (inr more) = at row g held gap t goes (d.kept q more)
+
+  -- the child isn't held
+  pub not_held : (q : ℕ) → IsHeld v q → q ≢ r
+  not_held q h e = elim (leads_on q h) [
+    | inl is ↦ let f = further.0 in omega arith
+    | inr leads ↦ none_back v log st tree r lt (leads_map mine mine (λ s. HasGapIn v tree (row_with s)) Of of (subst (λ (n : ℕ). Leads mine (λ s. HasGapIn v tree (row_with s)) n r) e leads))
+  ]
+
+  pub child_free : row_at v r ≡ None
+  child_free = go (row_at v r) refl
+    where
+      go : (x : Option Row) → row_at v r ≡ x → row_at v r ≡ None
+      go None is = is
+      go (Some row) is = absurd (not_held r (row, is) refl)
+
+  -- the gap in which the child stands
+  abbrev ChildGap : Type 0
+  ChildGap = (g : SeenGap) × (gap_for v r ≡ Some g) × (g.tree ≡ tree) × IsInside g.low g.high asked
+
+  left_now : (row : Row) → Holds v here.row row → link ≡ (node_of here.words).left → (node_of row.image).left ≡ r + 1
+  left_now row held is = ap (λ (x : Option Row). (node_of (image_of x)).left) (sym held) ∙ link_r _ (left_is is)
+
+  right_now : (row : Row) → Holds v here.row row → link ≡ (node_of here.words).right → (node_of row.image).right ≡ r + 1
+  right_now row held is = ap (λ (x : Option Row). (node_of (image_of x)).right) (sym held) ∙ link_r _ (right_is is)
+
+  image_now : (row : Row) → Holds v here.row row → row.image ≡ here.words
+  image_now row held = ap image_of (sym held) ∙ d.has.2
+
+  pub child_gap : ChildGap
+  child_gap = go d.spot
+    where
+      by_mode : (m : Mode) → mode_of here.words ≡ m → IsTree m → here.row ≡ tree → link ≡ (node_of here.words).left → ChildGap
+      by_mode (TreeMode score) em is row left =
+          let h = held_row v here.row d.has.0 in
+          (record { tree = tree; low = None; high = None; score = score },
+          gap_at_top v log st r tree score h.0 lt (subst (λ (n : ℕ). Holds v n h.0) row h.1) (ap mode_of (image_now h.0 h.1) ∙ em) (left_now h.0 h.1 left),
+          refl, (tt, tt))
+      by_mode (Buffer txn count) em is row left = absurd is
+
+      below : (row : Row) (g : SeenGap) → Holds v here.row row → row.gap ≡ Some g → g.tree ≡ tree → IsInside g.low g.high asked → v.plan.trees ≤ here.row → GoesTo asked (node_of here.words) link → ChildGap
+      below row g held gap t inside le (inl goes) =
+          (record g { high = Some (node_of row.image).range.left }, gap_at_left v log st r here.row row g le held gap (left_now row held goes.1), t,
+          (inside.0, ap (λ (ws : List ℕ). before asked (node_of ws).range) (image_now row held) ∙ goes.0))
+      below row g held gap t inside le (inr goes) =
+          (record g { low = Some (node_of row.image).range.right }, gap_at_right v log st r here.row row g le held gap (right_now row held goes.1), t,
+          (ap (λ (ws : List ℕ). before (node_of ws).range asked) (image_now row held) ∙ goes.0, inside.1))
+
+      go : Spot v tree asked here link → ChildGap
+      go (at_anchor row mode is) = by_mode (mode_of here.words) refl mode row is
+      go (at_row row g held gap t inside more goes) = below row g held gap t inside (omega arith) goes
+
+-- where the search goes on
+
+not_false : (a : Bool) → a ≡ false → not a ≡ true
+not_false true e = sym e
+not_false false e = refl
+
+second_false : (a b : Bool) → a ≡ true → (a && b) ≡ false → not b ≡ true
+second_false true b e n = not_false b n
+second_false false b e n = absurd (true≢false (sym e))
+
+pub goes_right : (asked range : Interval) (n : Node) (link : ℕ) → range ≡ n.range → overlap range asked ≡ false
+    → key_le range.left asked.right ≡ true → link ≡ n.right → GoesTo asked n link
+goes_right asked range n link is apart le same =
+    inr (ap (λ (a : Interval). before a asked) (sym is) ∙ second_false (key_le range.left asked.right) (key_le asked.left range.right) le apart, same)
+
+pub goes_left : (asked range : Interval) (n : Node) (link : ℕ) → range ≡ n.range → key_le range.left asked.right ≡ false → link ≡ n.left → GoesTo asked n link
+goes_left asked range n link is gt same =
+    inl (ap (λ (a : Interval). before asked a) (sym is) ∙ not_false (key_le range.left asked.right) gt, same)

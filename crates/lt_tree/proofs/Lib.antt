@@ -1,0 +1,5 @@
+pub mod ViewLaws
+pub mod PuttingLaws
+pub mod DownLaws
+pub mod StepLaws
+pub mod ArrivalLaws

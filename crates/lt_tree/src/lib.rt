@@ -1,0 +1,11 @@
+//! Searches in the trees of a table of shared rows. A state of a search owns the pass. Other passes may act meanwhile on every
+//! row that the state doesn't hold.
+#![tactic(auto)]
+
+mod descent;
+mod prepare;
+mod put;
+mod seize;
+
+pub use descent::{Stop, descend};
+pub use prepare::{Prepared, try_prepare};

@@ -1,0 +1,19 @@
+//! Rows given back.
+ghost use Rattle.lt_rows.specs.Handles.{knows, IsPassOf, IsSamePass};
+ghost use Rattle.std.specs.Prelude.{◌≡◌};
+ghost use Rattle.lt_tree.specs.Puttings.{Keeps, Puts};
+
+use lt_rows::{RowPass, RowTable};
+
+/// Gives these rows back, of which the words are those that count.
+pub(crate) fn put_all(table: &RowTable, pass: &mut RowPass, rows: Vec<u32>)
+    requires of { IsPassOf table.now pass.old }
+    requires keeps { Keeps (knows pass.old) rows.items }
+    ensures of { IsPassOf table.now pass.new × IsSamePass pass.old pass.new }
+    ensures put { Puts (knows pass.old) (knows pass.new) rows.items }
+{
+    let mut rows = rows;
+    while let Some(row) = rows.pop() {
+        table.put(pass, row);
+    }
+}
