@@ -3,3 +3,8 @@ pub mod PuttingLaws
 pub mod DownLaws
 pub mod StepLaws
 pub mod ArrivalLaws
+pub mod WideningLaws
+pub mod TakingLaws
+pub mod PassingLaws
+pub mod StartLaws
+pub mod ClosingLaws

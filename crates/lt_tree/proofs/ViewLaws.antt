@@ -139,3 +139,15 @@ refused_held v w u OutOfMemory i only = tt
 refused_held v w u (Busy row holder) i only = subst (λ (x : View). IsRefused v x (Busy row holder)) (sym only) i
 refused_held v w u (HistoryFull place) i only = absurd i
 refused_held v w u (OutOfLocks place used) i only = absurd i
+
+-- behind a search that was not refused
+pub refused_on : (v u w : View) (fault : Fault) → OnlyRows v u → IsRefused u w fault → IsRefused v w fault
+refused_on v u w OutOfMemory only i = tt
+refused_on v u w (Busy row holder) only i =
+    let a = only.1 in let b = i.0 in
+    let rights : u.rights ≡ v.rights = ap (λ (x : View). x.rights) only.0 in
+    let passes : u.plan.passes ≡ v.plan.passes = ap (λ (x : View). x.plan.passes) only.0 in
+    let less = i.3 in
+    (omega arith, i.1, i.2, omega arith)
+refused_on v u w (HistoryFull place) only i = absurd i
+refused_on v u w (OutOfLocks place used) only i = absurd i

@@ -1,3 +1,4 @@
 pub mod States
 pub mod Puttings
 pub mod Descents
+pub mod Gathers

@@ -6,6 +6,7 @@ mod descent;
 mod prepare;
 mod put;
 mod seize;
+mod widen;
 
 pub use descent::{Stop, descend};
 pub use prepare::{Prepared, try_prepare};

@@ -1,0 +1,112 @@
+-- Where the way down ends, the part begins: with the child that overlaps, or with nothing.
+use Rattle.std.proofs.Common.{◌≡◌, ◌≢◌, inl, inr, ◌⊎◌, ℕ, ◌<◌, true, List, [], ◌∷◌, refl, sym, ap, ◌∙◌, subst, arith, eq-eqb, ne_eqb}
+use Rattle.std.specs.Prelude.{Option, Some, None, nat_eq}
+use mathlib.Core.Logic.{dite}
+use native.Mathlib.Decide.{ℕ_discrete}
+use Rattle.lt_ranges.specs.Key.{key_le}
+use Rattle.lt_ranges.specs.Interval.{Interval, before}
+use Rattle.lt_seq.specs.declared.event.Mode.{Mode}
+use Rattle.lt_seq.specs.declared.event.Mode.TheVariants.{Tree as TreeMode, Buffer}
+use Rattle.lt_forest.specs.declared.part.PartRow.{PartRow}
+use Rattle.lt_forest.specs.Counts.{one_if, times}
+use Rattle.lt_forest.specs.Trees.{Node, in_order}
+use Rattle.lt_forest.specs.Cuts.{Cut, end, held, Shows, bare}
+use Rattle.lt_forest.specs.Forest.{IsTree}
+use Rattle.lt_forest.specs.Parts.{rows_of, hangs_of}
+use Rattle.lt_forest.specs.Plans.{Top, from_anchor, from_row, IsInGap}
+use Rattle.lt_forest.specs.Views.{IsIn, AllHeld}
+use Rattle.lt_rows.specs.declared.view.View.{View}
+use Rattle.lt_rows.specs.declared.image.RowImage.{RowImage}
+use Rattle.lt_rows.specs.Nodes.{node_of, mode_of}
+use Rattle.lt_rows.specs.Views.{has}
+use Rattle.lt_rows.specs.Lawful.{shown, KnowsTop}
+use Rattle.lt_tree.specs.States.{HasWords}
+use Rattle.lt_tree.specs.Descents.{Spot, at_anchor, at_row, Child, IsChild, Stays}
+use Rattle.lt_tree.specs.Gathers.{Place, below_top, on_left, on_right, link_at, TopIs, Beside, IsLocked}
+
+none_one : (x q : ℕ) → q ≢ x → one_if (nat_eq x q) ≡ 0
+none_one x q ne = ap one_if (ne_eqb x q (λ e. ne (sym e)))
+
+-- the part with which the gathering begins
+abbrev pub first_cut : Option RowImage → Cut
+first_cut None = end 0
+first_cut (Some child) = held (end (node_of child.words).left) child.row (end (node_of child.words).right)
+
+abbrev pub first_rows : Option RowImage → List PartRow
+first_rows None = []
+first_rows (Some child) = record { row = child.row; owner = (node_of child.words).owner; range = (node_of child.words).range } ∷ []
+
+abbrev pub first_hangs : Option RowImage → List ℕ
+first_hangs None = 0 ∷ []
+first_hangs (Some child) = (node_of child.words).left ∷ (node_of child.words).right ∷ []
+
+-- what the order of keys gives of ranges that lie apart
+abbrev pub Apart : Interval → Interval → Type 0
+Apart asked range = (before asked range ≡ true → key_le asked.right range.right ≡ true) × (before range asked ≡ true → key_le range.left asked.left ≡ true)
+
+module _ (v : View) (tree : ℕ) (asked : Interval) (here : RowImage) (child : Option RowImage) (st : Stays v tree asked here child) (apart : Apart asked (node_of here.words).range) where
+  node_here : shown v [] here.row ≡ node_of here.words
+  node_here = ap node_of st.has.2
+
+  here_once : one_if (nat_eq here.row here.row) ≡ 1
+  here_once = ap one_if (eq-eqb here.row here.row refl)
+
+  shows : (x : Option RowImage) → Child v asked st.link x → (l : ℕ) → l ≡ st.link → Shows (shown v []) l (first_cut x)
+  shows None c l e = e ∙ c
+  shows (Some ch) c l e = (e ∙ c.0, ap (λ (n : List ℕ). (node_of n).left) c.1.2, ap (λ (n : List ℕ). (node_of n).right) c.1.2)
+
+  held_rows : (x : Option RowImage) → Child v asked st.link x → AllHeld (IsIn (has v)) (here.row ∷ in_order (bare (first_cut x)))
+  held_rows None c q more = dite (ℕ_discrete q here.row) (λ e. subst (IsIn (has v)) (sym e) st.has.0) (λ ne. absurd (let z : one_if (nat_eq here.row q) ≡ 0 = none_one here.row q ne in omega arith))
+  held_rows (Some ch) c q more = dite (ℕ_discrete q here.row) (λ e. subst (IsIn (has v)) (sym e) st.has.0)
+      (λ ne. dite (ℕ_discrete q ch.row) (λ e. subst (IsIn (has v)) (sym e) c.1.0)
+      (λ ne'. absurd (let z : one_if (nat_eq here.row q) ≡ 0 = none_one here.row q ne in let z' : one_if (nat_eq ch.row q) ≡ 0 = none_one ch.row q ne' in omega arith)))
+
+  held_all : (x : Option RowImage) → (q : ℕ) → (q ≡ here.row) ⊎ IsChild x q → 0 < times q (here.row ∷ in_order (bare (first_cut x)))
+  held_all x q (inl e) = let o : one_if (nat_eq here.row q) ≡ 1 = ap one_if (eq-eqb here.row q (sym e)) in omega arith
+  held_all None q (inr e) = absurd e
+  held_all (Some ch) q (inr e) = let o : one_if (nat_eq ch.row q) ≡ 1 = ap one_if (eq-eqb ch.row q (sym e)) in omega arith
+
+  rows_are : (x : Option RowImage) → Child v asked st.link x → rows_of (shown v []) (first_cut x) ≡ first_rows x
+  rows_are None c = refl
+  rows_are (Some ch) c = ap (λ (ws : List ℕ). record { row = ch.row; owner = (node_of ws).owner; range = (node_of ws).range } ∷ []) c.1.2
+
+  hangs_are : (x : Option RowImage) → hangs_of (first_cut x) ≡ first_hangs x
+  hangs_are None = refl
+  hangs_are (Some ch) = refl
+
+  begun : (p : Place) (top : Top) (score : ℕ) → KnowsTop v tree top score → TopIs p tree here.row top → IsInGap top asked → Beside p asked (shown v [] here.row).range → link_at p (shown v [] here.row) ≡ st.link
+      → IsLocked v tree asked here.row (first_rows child) (first_hangs child)
+  begun p top score knows top_is in_gap beside link = record {
+    place = p;
+    top = top;
+    score = score;
+    sub = first_cut child;
+    knows = knows;
+    top_is = top_is;
+    in_gap = in_gap;
+    beside = beside;
+    shows = shows child st.child_is (link_at p (shown v [] here.row)) link;
+    held_rows = held_rows child st.child_is;
+    held_all = λ q h. held_all child q (st.held_all q h);
+    rows_are = rows_are child st.child_is;
+    hangs_are = hangs_are child;
+    teaches = st.teaches;
+    gathers = st.gathers;
+  }
+
+  pub starts : IsLocked v tree asked here.row (first_rows child) (first_hangs child)
+  starts = go st.spot
+    where
+      by_mode : (m : Mode) → mode_of here.words ≡ m → IsTree m → here.row ≡ tree → st.link ≡ (node_of here.words).left → IsLocked v tree asked here.row (first_rows child) (first_hangs child)
+      by_mode (TreeMode score) e is row link =
+          begun below_top from_anchor score (ap mode_of (subst (λ (n : ℕ). HasWords v n here.words) row st.has).2 ∙ e) (row, refl) tt tt (ap (λ (n : Node). n.left) node_here ∙ sym link)
+      by_mode (Buffer txn count) e is row link = absurd is
+
+      go : Spot v tree asked here st.link → IsLocked v tree asked here.row (first_rows child) (first_hangs child)
+      go (at_anchor row mode link) = by_mode (mode_of here.words) refl mode row link
+      go (at_row row g there gap t inside more (inl goes)) =
+          begun on_left (from_row here.row (g.low, g.high)) g.score (row, there, gap ∙ ap (λ (n : ℕ). Some (record g { tree = n })) t) ((g.low, g.high), refl) inside
+          (subst (λ (n : Node). Beside on_left asked n.range) (sym node_here) (goes.0, apart.0 goes.0)) (ap (λ (n : Node). n.left) node_here ∙ sym goes.1)
+      go (at_row row g there gap t inside more (inr goes)) =
+          begun on_right (from_row here.row (g.low, g.high)) g.score (row, there, gap ∙ ap (λ (n : ℕ). Some (record g { tree = n })) t) ((g.low, g.high), refl) inside
+          (subst (λ (n : Node). Beside on_right asked n.range) (sym node_here) (goes.0, apart.1 goes.0)) (ap (λ (n : Node). n.right) node_here ∙ sym goes.1)
