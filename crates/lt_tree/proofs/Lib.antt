@@ -8,3 +8,4 @@ pub mod TakingLaws
 pub mod PassingLaws
 pub mod StartLaws
 pub mod ClosingLaws
+pub mod ReleaseLaws

@@ -5,6 +5,8 @@ use mathlib.Core.Logic.{dite}
 use native.Mathlib.Decide.{ℕ_discrete}
 use borrow.Author.Tests.{eqb-true}
 use Rattle.lt_forest.specs.Counts.{one_if, times}
+use Rattle.lt_forest.specs.declared.part.PartRow.{PartRow}
+use Rattle.lt_forest.specs.Parts.{numbers}
 use Rattle.lt_forest.proofs.SameRows.{times-++, one_here, one_equal}
 use Rattle.lt_rows.specs.declared.view.View.{View}
 use Rattle.lt_rows.specs.declared.view.Row.{Row}
@@ -96,3 +98,13 @@ backs_none v w rows b p q = dite (ℕ_discrete (times q rows) 0)
     by_row : (x : Option Row) → row_at w q ≡ x → times q rows ≡ 0 → row_at w q ≡ None
     by_row None e z = e
     by_row (Some row) e z = absurd (let more = b.held_all q (row, sym (p.others q z) ∙ e) in omega arith)
+
+numbers_app : (xs ys : List PartRow) → numbers (xs ++ ys) ≡ numbers xs ++ numbers ys
+numbers_app [] ys = refl
+numbers_app (x ∷ xs) ys = ap (λ (l : List ℕ). x.row ∷ l) (numbers_app xs ys)
+
+-- the row of a part that is put last
+pub one_row_less : (held : ℕ) (rows less : List PartRow) (row : PartRow) → rows ≡ less ++ row ∷ []
+    → held ∷ numbers rows ≡ (held ∷ numbers less) ++ row.row ∷ []
+one_row_less held rows less row e =
+    ap (λ (xs : List ℕ). held ∷ xs) (ap (λ (xs : List PartRow). numbers xs) e ∙ numbers_app less (row ∷ []))

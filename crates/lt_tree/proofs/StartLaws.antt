@@ -1,10 +1,10 @@
 -- Where the way down ends, the part begins: with the child that overlaps, or with nothing.
-use Rattle.std.proofs.Common.{◌≡◌, ◌≢◌, inl, inr, ◌⊎◌, ℕ, ◌<◌, true, List, [], ◌∷◌, refl, sym, ap, ◌∙◌, subst, arith, eq-eqb, ne_eqb}
-use Rattle.std.specs.Prelude.{Option, Some, None, nat_eq}
+use Rattle.std.proofs.Common.{◌≡◌, ◌≢◌, inl, inr, ◌⊎◌, ℕ, ◌<◌, true, List, [], ◌∷◌, refl, sym, ap, ◌∙◌, subst, arith, eq-eqb, ne_eqb, ◌^◌, Bool, false}
+use Rattle.std.specs.Prelude.{Option, Some, None, nat_eq, not}
 use mathlib.Core.Logic.{dite}
 use native.Mathlib.Decide.{ℕ_discrete}
 use Rattle.lt_ranges.specs.Key.{key_le}
-use Rattle.lt_ranges.specs.Interval.{Interval, before}
+use Rattle.lt_ranges.specs.Interval.{Interval, IsInterval, before}
 use Rattle.lt_seq.specs.declared.event.Mode.{Mode}
 use Rattle.lt_seq.specs.declared.event.Mode.TheVariants.{Tree as TreeMode, Buffer}
 use Rattle.lt_forest.specs.declared.part.PartRow.{PartRow}
@@ -19,10 +19,14 @@ use Rattle.lt_rows.specs.declared.view.View.{View}
 use Rattle.lt_rows.specs.declared.image.RowImage.{RowImage}
 use Rattle.lt_rows.specs.Nodes.{node_of, mode_of}
 use Rattle.lt_rows.specs.Views.{has}
+use Rattle.lt_rows.specs.Views.{rows_of as all_rows}
+use Rattle.lt_rows.proofs.NodeRanges.{node_interval}
+use Rattle.lt_ranges.proofs.KeyLaws.{le_trans, le_total}
+use Rattle.lt_tree.proofs.TakingLaws.{hang_small}
 use Rattle.lt_rows.specs.Lawful.{shown, KnowsTop}
 use Rattle.lt_tree.specs.States.{HasWords}
 use Rattle.lt_tree.specs.Descents.{Spot, at_anchor, at_row, Child, IsChild, Stays}
-use Rattle.lt_tree.specs.Gathers.{Place, below_top, on_left, on_right, link_at, TopIs, Beside, IsLocked}
+use Rattle.lt_tree.specs.Gathers.{Place, below_top, on_left, on_right, link_at, TopIs, Beside, IsLocked, first_rows, first_hangs}
 
 none_one : (x q : ℕ) → q ≢ x → one_if (nat_eq x q) ≡ 0
 none_one x q ne = ap one_if (ne_eqb x q (λ e. ne (sym e)))
@@ -31,14 +35,6 @@ none_one x q ne = ap one_if (ne_eqb x q (λ e. ne (sym e)))
 abbrev pub first_cut : Option RowImage → Cut
 first_cut None = end 0
 first_cut (Some child) = held (end (node_of child.words).left) child.row (end (node_of child.words).right)
-
-abbrev pub first_rows : Option RowImage → List PartRow
-first_rows None = []
-first_rows (Some child) = record { row = child.row; owner = (node_of child.words).owner; range = (node_of child.words).range } ∷ []
-
-abbrev pub first_hangs : Option RowImage → List ℕ
-first_hangs None = 0 ∷ []
-first_hangs (Some child) = (node_of child.words).left ∷ (node_of child.words).right ∷ []
 
 -- what the order of keys gives of ranges that lie apart
 abbrev pub Apart : Interval → Interval → Type 0
@@ -110,3 +106,39 @@ module _ (v : View) (tree : ℕ) (asked : Interval) (here : RowImage) (child : O
       go (at_row row g there gap t inside more (inr goes)) =
           begun on_right (from_row here.row (g.low, g.high)) g.score (row, there, gap ∙ ap (λ (n : ℕ). Some (record g { tree = n })) t) ((g.low, g.high), refl) inside
           (subst (λ (n : Node). Beside on_right asked n.range) (sym node_here) (goes.0, apart.1 goes.0)) (ap (λ (n : Node). n.right) node_here ∙ sym goes.1)
+
+-- links that fit
+abbrev pub AllSmall : List ℕ → Type 0
+AllSmall hangs = (x : ℕ) → 0 < times x hangs → x < 2 ^ 32
+
+pub left_small : (child : Option RowImage) (ch : RowImage) (l : ℕ) → child ≡ Some ch → AllSmall (first_hangs child) → l ≡ (node_of ch.words).left → l < 2 ^ 32
+left_small child ch l is small e =
+    subst (λ (x : Option RowImage). AllSmall (first_hangs x)) is small l
+    (let o = ap one_if (eq-eqb (node_of ch.words).left l (sym e)) in omega arith)
+
+pub right_small : (child : Option RowImage) (ch : RowImage) (l : ℕ) → child ≡ Some ch → AllSmall (first_hangs child) → l ≡ (node_of ch.words).right → l < 2 ^ 32
+right_small child ch l is small e =
+    subst (λ (x : Option RowImage). AllSmall (first_hangs x)) is small l
+    (let o = ap one_if (eq-eqb (node_of ch.words).right l (sym e)) in omega arith)
+
+-- a row's range lies apart of one that it doesn't overlap
+not_true : (b : Bool) → not b ≡ true → b ≡ false
+not_true true e = sym e
+not_true false e = refl
+
+apart_of : (asked range : Interval) → IsInterval range → Apart asked range
+apart_of asked range is = (
+  λ b. le_trans asked.right range.left range.right (le_total range.left asked.right (not_true (key_le range.left asked.right) b)) is,
+  λ b. le_trans range.left range.right asked.left is (le_total asked.left range.right (not_true (key_le asked.left range.right) b)),
+)
+
+pub starts_here : (v : View) (tree : ℕ) (asked : Interval) (here : RowImage) (child : Option RowImage) → Stays v tree asked here child
+    → IsLocked v tree asked here.row (first_rows child) (first_hangs child)
+starts_here v tree asked here child st =
+    starts v tree asked here child st (apart_of asked (node_of here.words).range (node_interval here.words))
+
+pub first_small : (v : View) (tree : ℕ) (asked : Interval) (here : RowImage) (child : Option RowImage) → Stays v tree asked here child
+    → tree < v.plan.trees → all_rows v.plan < 4294967296 → (x : ℕ) → 0 < times x (first_hangs child) → x < 4294967296
+first_small v tree asked here child st lt few x more =
+    let s = hang_small v tree asked here.row (first_rows child) (first_hangs child) (starts_here v tree asked here child st) lt x more in
+    omega arith

@@ -6,6 +6,7 @@ use native.Mathlib.Decide.{ℕ_discrete}
 use Rattle.lt_seq.specs.declared.plan.YardPlan.{YardPlan}
 use Rattle.lt_rows.specs.declared.view.View.{View}
 use Rattle.lt_rows.specs.declared.view.Row.{Row}
+use Rattle.lt_rows.specs.declared.image.RowImage.{RowImage}
 use Rattle.lt_rows.specs.declared.take.Take.TheVariants.{Taken, HeldBy}
 use Rattle.lt_rows.specs.Views.{Holds, row_at, rows_of, words_of, image_of, with_row}
 use Rattle.lt_rows.proofs.Frames.{Some-is, Some-none}
@@ -16,7 +17,7 @@ use Rattle.lt_rows.proofs.StepLaws.{gathering_is_kept}
 use Rattle.lt_rows.specs.Handles.{IsGathering}
 use Rattle.lt_seq.specs.declared.fault.Fault.TheVariants.{OutOfMemory, Busy, HistoryFull, OutOfLocks}
 use Rattle.lt_seq.specs.declared.fault.Fault.{Fault}
-use Rattle.lt_tree.specs.States.{HoldsNone, HoldsOnly, OnlyMet, OnlyHeld, OnlyRows, Seizes, HasWords, IsRefused}
+use Rattle.lt_tree.specs.States.{HoldsNone, HoldsOnly, OnlyMet, OnlyHeld, OnlyRows, Seizes, HasWords, IsRefused, IsPrepared}
 
 pub tree_row : (k : YardPlan) (t : ℕ) → t < k.trees → t < rows_of k
 unfolding rows_of
@@ -151,3 +152,13 @@ refused_on v u w (Busy row holder) only i =
     (omega arith, i.1, i.2, omega arith)
 refused_on v u w (HistoryFull place) only i = absurd i
 refused_on v u w (OutOfLocks place used) only i = absurd i
+
+-- the anchor is loaded once more
+pub prepared_loaded : (v w : View) (tree : ℕ) (image loaded : RowImage) → IsPrepared v tree image → w ≡ v → loaded.row ≡ tree
+    → loaded.words ≡ words_of (row_at v tree) → IsPrepared w loaded.row loaded
+prepared_loaded v w tree image loaded p same row words = (
+  subst (λ (n : ℕ). HasWords w n loaded.words) (sym row)
+  (same_has v w tree loaded.words same (has_loaded v tree image.words loaded.words words p.0)),
+  refl,
+  subst (HoldsOnly w) (sym row) (same_only v w tree same p.2),
+)

@@ -1,5 +1,5 @@
 -- The part that a search gathers below the row that stays held.
-use Rattle.std.specs.Prelude.{false, suc, zero, Bool, ◌||◌, Some, ◌≡◌, ◌⊎◌, ℕ, ◌<◌, List, [], ◌∷◌, ◌++◌, true, None, take, drop}
+use Rattle.std.specs.Prelude.{false, suc, zero, Bool, ◌||◌, Option, Some, ◌≡◌, ◌⊎◌, ℕ, ◌<◌, List, [], ◌∷◌, ◌++◌, true, None, take, drop}
 use Rattle.lt_ranges.specs.Key.{key_le}
 use Rattle.lt_ranges.specs.Interval.{Interval, before}
 use Rattle.lt_forest.specs.declared.part.PartRow.{PartRow}
@@ -11,6 +11,8 @@ use Rattle.lt_forest.specs.Parts.{rows_of, hangs_of, hanging}
 use Rattle.lt_forest.specs.Plans.{Top, from_anchor, from_row, IsInGap}
 use Rattle.lt_forest.specs.Views.{IsIn, AllHeld}
 use Rattle.lt_rows.specs.declared.view.View.{View}
+use Rattle.lt_rows.specs.declared.image.RowImage.{RowImage}
+use Rattle.lt_rows.specs.Nodes.{node_of}
 use Rattle.lt_rows.specs.Views.{IsHeld, has}
 use Rattle.lt_rows.specs.Lawful.{shown, KnowsTop}
 use Rattle.lt_rows.specs.Handles.{IsGathering}
@@ -91,3 +93,13 @@ Passed asked x (r ∷ rows) (l ∷ ls) (suc n) = ((l ≡ 0) ⊎ IsAside asked (l
 -- all that hangs is aside
 abbrev pub IsClosed : Interval → List PartRow → List ℕ → Type 0
 IsClosed asked rows hangs = AllAside asked (hanging rows hangs None None)
+
+-- the rows and the hangs with which the gathering begins: the child that overlaps, or nothing
+abbrev pub first_rows : Option RowImage → List PartRow
+first_rows None = []
+first_rows (Some child) =
+    record { row = child.row; owner = (node_of child.words).owner; range = (node_of child.words).range } ∷ []
+
+abbrev pub first_hangs : Option RowImage → List ℕ
+first_hangs None = 0 ∷ []
+first_hangs (Some child) = (node_of child.words).left ∷ (node_of child.words).right ∷ []

@@ -3,10 +3,13 @@
 #![tactic(auto)]
 
 mod descent;
+mod locked;
+mod part;
 mod prepare;
 mod put;
 mod seize;
 mod widen;
 
 pub use descent::{Stop, descend};
+pub use locked::Locked;
 pub use prepare::{Prepared, try_prepare};
