@@ -9,3 +9,4 @@ pub mod PassingLaws
 pub mod StartLaws
 pub mod ClosingLaws
 pub mod ReleaseLaws
+pub mod PartLaws

@@ -1,5 +1,5 @@
 -- What a search holds, as rows that it may give back: each once.
-use Rattle.std.proofs.Common.{◌≡◌, ◌≢◌, ℕ, zero, suc, ◌+◌, ◌<◌, ◌≤◌, List, [], ◌∷◌, ◌++◌, map, refl, sym, ap, ap₂, ◌∙◌, subst, arith, ne_eqb, Bool, true, false}
+use Rattle.std.proofs.Common.{◌≡◌, ℕ, ◌<◌, ◌≤◌, List, [], ◌∷◌, map, refl, sym, ap, ◌∙◌, subst, arith, ne_eqb, Bool, true, false}
 use Rattle.std.specs.Prelude.{nat_eq}
 use mathlib.Core.Logic.{dite}
 use native.Mathlib.Decide.{ℕ_discrete}
@@ -11,7 +11,7 @@ use Rattle.lt_seq.proofs.LawfulLaws.{sound_history}
 use Rattle.lt_forest.specs.declared.part.PartRow.{PartRow}
 use Rattle.lt_forest.specs.Counts.{one_if, times}
 use Rattle.lt_forest.specs.Trees.{Nodes, in_order}
-use Rattle.lt_forest.specs.Cuts.{Cut, end, held, bare}
+use Rattle.lt_forest.specs.Cuts.{Cut, bare}
 use Rattle.lt_forest.specs.Forest.{Forest}
 use Rattle.lt_forest.specs.Parts.{part_row, numbers}
 use Rattle.lt_forest.specs.Plans.{Top, IsPart}
@@ -21,12 +21,11 @@ use Rattle.lt_forest.proofs.FurtherRows.{in_tree_further}
 use Rattle.lt_forest.proofs.PartLaws.{rows_are}
 use Rattle.lt_forest.proofs.PlansInView.{true_part}
 use Rattle.lt_rows.specs.declared.view.View.{View}
-use Rattle.lt_rows.specs.Views.{IsHeld, has}
 use Rattle.lt_rows.specs.Lawful.{shown}
 use Rattle.lt_rows.proofs.Planned.{view_is, held_row}
 use Rattle.lt_rows.proofs.WoodCommits.{seen_top, mode_top}
 use Rattle.lt_tree.specs.Gathers.{Place, below_top, on_left, on_right, around, TopIs, IsLocked}
-use Rattle.lt_tree.specs.Puttings.{Keeps, Backs}
+use Rattle.lt_tree.specs.Puttings.{Backs}
 use Rattle.lt_tree.proofs.WideningLaws.{holds_part}
 
 -- a row of a part stands in it once, and is a further row

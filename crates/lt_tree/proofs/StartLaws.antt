@@ -4,10 +4,9 @@ use Rattle.std.specs.Prelude.{Option, Some, None, nat_eq, not}
 use mathlib.Core.Logic.{dite}
 use native.Mathlib.Decide.{ℕ_discrete}
 use Rattle.lt_ranges.specs.Key.{key_le}
-use Rattle.lt_ranges.specs.Interval.{Interval, IsInterval, before}
+use Rattle.lt_ranges.specs.Interval.{Interval, IsInterval, before, overlap}
 use Rattle.lt_seq.specs.declared.event.Mode.{Mode}
 use Rattle.lt_seq.specs.declared.event.Mode.TheVariants.{Tree as TreeMode, Buffer}
-use Rattle.lt_forest.specs.declared.part.PartRow.{PartRow}
 use Rattle.lt_forest.specs.Counts.{one_if, times}
 use Rattle.lt_forest.specs.Trees.{Node, in_order}
 use Rattle.lt_forest.specs.Cuts.{Cut, end, held, Shows, bare}
@@ -16,13 +15,18 @@ use Rattle.lt_forest.specs.Parts.{rows_of, hangs_of}
 use Rattle.lt_forest.specs.Plans.{Top, from_anchor, from_row, IsInGap}
 use Rattle.lt_forest.specs.Views.{IsIn, AllHeld}
 use Rattle.lt_rows.specs.declared.view.View.{View}
+use Rattle.lt_rows.specs.declared.view.Row.{Row}
 use Rattle.lt_rows.specs.declared.image.RowImage.{RowImage}
 use Rattle.lt_rows.specs.Nodes.{node_of, mode_of}
-use Rattle.lt_rows.specs.Views.{has}
+use Rattle.lt_rows.specs.Views.{has, row_at, image_of}
+use Rattle.lt_rows.proofs.Planned.{row_held, held_row}
 use Rattle.lt_rows.specs.Views.{rows_of as all_rows}
 use Rattle.lt_rows.proofs.NodeRanges.{node_interval}
 use Rattle.lt_ranges.proofs.KeyLaws.{le_trans, le_total}
 use Rattle.lt_tree.proofs.TakingLaws.{hang_small}
+use Rattle.lt_tree.proofs.StepLaws.{has_on, spot_on}
+use Rattle.lt_tree.specs.States.{KeepsRows}
+use Rattle.lt_tree.specs.Descents.{EndsAt, IsLast}
 use Rattle.lt_rows.specs.Lawful.{shown, KnowsTop}
 use Rattle.lt_tree.specs.States.{HasWords}
 use Rattle.lt_tree.specs.Descents.{Spot, at_anchor, at_row, Child, IsChild, Stays}
@@ -142,3 +146,39 @@ pub first_small : (v : View) (tree : ℕ) (asked : Interval) (here : RowImage) (
 first_small v tree asked here child st lt few x more =
     let s = hang_small v tree asked here.row (first_rows child) (first_hangs child) (starts_here v tree asked here child st) lt x more in
     omega arith
+
+-- the row that stays
+
+ends_at : (v : View) (asked : Interval) (link : ℕ) (child : Option RowImage) → Child v asked link child → EndsAt v asked link
+ends_at v asked link None is = inl is
+ends_at v asked link (Some child) is =
+    inr (child.row, is.0, is.1.0, ap (λ (ws : List ℕ). overlap (node_of ws).range asked) is.1.2 ∙ is.2)
+
+pub last_first : (v : View) (tree : ℕ) (asked : Interval) (here : RowImage) (child : Option RowImage) → Stays v tree asked here child
+    → IsLast v tree asked here.row
+last_first v tree asked here child st = record {
+  words = here.words;
+  link = st.link;
+  has_words = st.has;
+  spot = st.spot;
+  ends = ends_at v asked st.link child st.child_is;
+}
+
+pub last_on : (v w : View) (tree : ℕ) (asked : Interval) (here : ℕ) → w.plan ≡ v.plan → KeepsRows v w → IsLast v tree asked here
+    → IsLast w tree asked here
+last_on v w tree asked here plan keeps l = record {
+  words = l.words;
+  link = l.link;
+  has_words = has_on v w here l.words here_same l.has_words;
+  spot = spot_on v w tree asked (record { row = here; words = l.words }) l.link plan here_same l.spot;
+  ends = ends_on l.ends;
+}
+  where
+    here_same : row_at w here ≡ row_at v here
+    here_same = keeps here (held_row v here l.has_words.0)
+
+    ends_on : EndsAt v asked l.link → EndsAt w asked l.link
+    ends_on (inl z) = inl z
+    ends_on (inr e) =
+        let h = held_row v e.0 e.2 in
+        inr (e.0, e.1, row_held w e.0 h.0 (keeps e.0 h ∙ h.1), ap (λ (x : Option Row). overlap (node_of (image_of x)).range asked) (keeps e.0 h) ∙ e.3)

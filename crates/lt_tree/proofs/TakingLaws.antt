@@ -21,13 +21,13 @@ use Rattle.lt_rows.specs.Gaps.{gap_for}
 use Rattle.lt_rows.specs.Lawful.{shown, KnowsTop}
 use Rattle.lt_rows.specs.Teaching.{Teaches}
 use Rattle.lt_rows.specs.Handles.{IsGathering}
-use Rattle.lt_tree.specs.States.{OnlyMet, Seizes}
+use Rattle.lt_tree.specs.States.{OnlyMet, Seizes, KeepsRows}
 use Rattle.lt_tree.specs.Descents.{free_rows}
 use Rattle.lt_tree.specs.Gathers.{IsLocked}
-use Rattle.lt_tree.proofs.ViewLaws.{met_rows, met_gathers, seized_has, has_loaded}
+use Rattle.lt_tree.proofs.ViewLaws.{seized_else, met_rows, met_gathers, seized_has, has_loaded}
 use Rattle.lt_tree.proofs.DownLaws.{free_take}
 use Rattle.lt_forest.proofs.PartLaws.{map_long}
-use Rattle.lt_tree.proofs.WideningLaws.{names, hang_free, widened}
+use Rattle.lt_tree.proofs.WideningLaws.{names, hang_free, widened, not_there}
 
 pub split_at : (xs : List ℕ) (i x : ℕ) → i < length xs → x ≡ get_or xs i 0 → xs ≡ take i xs ++ x ∷ drop (suc i) xs
 split_at [] i x lt e = absurd (omega arith)
@@ -155,6 +155,11 @@ module _ {v w : View} {tree : ℕ} {asked : Interval} {here : ℕ} {rows : List 
       let x = hang_small w tree asked here _ _ l' lt' left (omega arith) in
       let y = hang_small w tree asked here _ _ l' lt' right (omega arith) in
       (omega arith, omega arith)
+
+  pub hang_keeps : KeepsRows v w
+  hang_keeps q h =
+      let some = stands_at hangs at r t.inside t.is in
+      seized_else r v w t.seizes q (not_there v tree asked here rows hangs t.was t.in_range r some q h)
 
   pub fewer : free_rows w.held + 1 ≡ free_rows v.held
   fewer =

@@ -17,7 +17,7 @@ use Rattle.lt_rows.proofs.StepLaws.{gathering_is_kept}
 use Rattle.lt_rows.specs.Handles.{IsGathering}
 use Rattle.lt_seq.specs.declared.fault.Fault.TheVariants.{OutOfMemory, Busy, HistoryFull, OutOfLocks}
 use Rattle.lt_seq.specs.declared.fault.Fault.{Fault}
-use Rattle.lt_tree.specs.States.{HoldsNone, HoldsOnly, OnlyMet, OnlyHeld, OnlyRows, Seizes, HasWords, IsRefused, IsPrepared}
+use Rattle.lt_tree.specs.States.{HoldsNone, HoldsOnly, OnlyMet, OnlyHeld, OnlyRows, KeepsRows, Seizes, HasWords, IsRefused, IsPrepared}
 
 pub tree_row : (k : YardPlan) (t : ℕ) → t < k.trees → t < rows_of k
 unfolding rows_of
@@ -162,3 +162,14 @@ prepared_loaded v w tree image loaded p same row words = (
   refl,
   subst (HoldsOnly w) (sym row) (same_only v w tree same p.2),
 )
+
+-- held rows stay
+
+pub keeps_same : (v : View) → KeepsRows v v
+keeps_same v q h = refl
+
+pub keeps_met : (v w : View) → OnlyMet v w → KeepsRows v w
+keeps_met v w m q h = met_rows v w q m
+
+pub keeps_on : (v w u : View) → KeepsRows v w → KeepsRows w u → KeepsRows v u
+keeps_on v w u one two q h = two q (h.0, one q h ∙ h.1) ∙ one q h

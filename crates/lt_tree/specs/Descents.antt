@@ -6,12 +6,13 @@ use Rattle.lt_forest.specs.Bounds.{IsInside}
 use Rattle.lt_forest.specs.Trees.{Node}
 use Rattle.lt_forest.specs.Forest.{IsTree}
 use Rattle.lt_forest.specs.Links.{row_with, Leads}
+use Rattle.lt_forest.specs.Views.{IsIn}
 use Rattle.lt_rows.specs.declared.view.View.{View}
 use Rattle.lt_rows.specs.declared.view.Row.{Row}
 use Rattle.lt_rows.specs.declared.view.SeenGap.{SeenGap}
 use Rattle.lt_rows.specs.declared.image.RowImage.{RowImage}
 use Rattle.lt_rows.specs.Nodes.{node_of, mode_of}
-use Rattle.lt_rows.specs.Views.{Holds, IsHeld}
+use Rattle.lt_rows.specs.Views.{Holds, IsHeld, has}
 use Rattle.lt_rows.specs.Handles.{IsGathering}
 use Rattle.lt_rows.specs.Lawful.{shown}
 use Rattle.lt_rows.specs.Teaching.{Teaches}
@@ -89,3 +90,16 @@ pub record Stays (v : View) (tree : ℕ) (asked : Interval) (here : RowImage) (c
   pub child_is : Child v asked link child
   pub held_all : (q : ℕ) → IsHeld v q → (q ≡ here.row) ⊎ IsChild child q
   pub gathers : IsGathering v
+
+-- where a search path ends: nothing is there, or a row that overlaps, which is held
+abbrev pub EndsAt : View → Interval → ℕ → Type 0
+EndsAt v asked link =
+    (link ≡ 0) ⊎ ((q : ℕ) × (link ≡ q + 1) × IsIn (has v) q × (overlap (shown v [] q).range asked ≡ true))
+
+-- The row is the last one of the search path whose child on the asked range's side overlaps the range or is missing.
+pub record IsLast (v : View) (tree : ℕ) (asked : Interval) (here : ℕ) : Type 0 where
+  pub words : List ℕ
+  pub link : ℕ
+  pub has_words : HasWords v here words
+  pub spot : Spot v tree asked record { row = here; words = words } link
+  pub ends : EndsAt v asked link

@@ -2,3 +2,4 @@ pub mod States
 pub mod Puttings
 pub mod Descents
 pub mod Gathers
+pub mod LawsOfParts

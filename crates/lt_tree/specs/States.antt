@@ -30,6 +30,10 @@ OnlyHeld v w = w ≡ record v { held = w.held }
 abbrev pub OnlyRows : View → View → Type 0
 OnlyRows v w = (w ≡ record v { held = w.held; met = w.met; met_row = w.met_row; met_mark = w.met_mark }) × (v.met ≤ w.met)
 
+-- the rows that it held it still holds as they were
+abbrev pub KeepsRows : View → View → Type 0
+KeepsRows v w = (q : ℕ) → IsHeld v q → row_at w q ≡ row_at v q
+
 -- several tries to take a row; all fail only where others were met, which never comes to a pass with all the rights
 abbrev pub Seizes : ℕ → View → View → Take → Type 0
 Seizes row v w Taken = (u : View) × OnlyMet v u × Tries row u w Taken

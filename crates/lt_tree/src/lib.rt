@@ -3,6 +3,7 @@
 #![tactic(auto)]
 
 mod descent;
+pub mod laws;
 mod locked;
 mod part;
 mod prepare;

@@ -5,8 +5,8 @@ ghost use Rattle.lt_ranges.specs.Interval.{IsInterval};
 ghost use Rattle.lt_forest.specs.Forest.{IsTree};
 ghost use Rattle.lt_rows.specs.Nodes.{mode_of};
 ghost use Rattle.lt_rows.specs.Handles.{knows, IsPassOf, IsSamePass};
-ghost use Rattle.lt_tree.specs.States.{HoldsNone, OnlyHeld, OnlyRows, IsRefused};
-ghost use Rattle.lt_tree.specs.Descents.{Stays};
+ghost use Rattle.lt_tree.specs.States.{HoldsNone, OnlyHeld, OnlyRows, KeepsRows, IsRefused};
+ghost use Rattle.lt_tree.specs.Descents.{Stays, IsLast};
 ghost use Rattle.lt_tree.specs.Gathers.{IsLocked, IsClosed, PlacedAt};
 
 use crate::descent::{Stop, descend};
@@ -53,6 +53,7 @@ fn gather_below(
     ensures only { OnlyRows (knows pass.old) (knows pass.new) }
     ensures locked { IfOk result (λ part.
         IsLocked (knows pass.new) tree asked.now stop.now.here.row part.rows.items part.hangs.items) }
+    ensures last { IfOk result (λ _. IsLast (knows pass.new) tree asked.now stop.now.here.row) }
     ensures closed { IfOk result (λ part. IsClosed asked.now part.rows.items part.hangs.items) }
     ensures none { IfErr result (λ _. HoldsNone (knows pass.new)) }
     ensures refused { IfErr result (λ fault. IsRefused (knows pass.old) (knows pass.new) fault) }
@@ -80,6 +81,7 @@ impl<'a> Prepared<'a> {
         ensures same { IfOk result (λ l. IsSamePass self.entry.pass l.pass × OnlyRows (knows self.entry.pass) (knows l.pass)) }
         ensures kept { IfOk result (λ l. (l.table.now ≡ self.entry.table.now) × (l.tree ≡ self.entry.tree) × (l.asked ≡ asked.now)) }
         ensures locked { IfOk result (λ l. IsLocked (knows l.pass) l.tree l.asked l.held l.part.rows.items l.part.hangs.items) }
+        ensures last { IfOk result (λ l. IsLast (knows l.pass) l.tree l.asked l.held) }
         ensures closed { IfOk result (λ l. IsClosed l.asked l.part.rows.items l.part.hangs.items) }
         ensures handed { IfErr result (λ r. IsPassOf self.entry.table.now r.0 × IsSamePass self.entry.pass r.0) }
         ensures none { IfErr result (λ r. HoldsNone (knows r.0)) }
@@ -145,6 +147,7 @@ impl<'a> Locked<'a> {
             × (self.new.held ≡ self.old.held) }
         ensures locked { IsLocked (knows self.new.pass) self.new.tree self.new.asked self.new.held self.new.part.rows.items
             self.new.part.hangs.items }
+        ensures rows { KeepsRows (knows self.old.pass) (knows self.new.pass) }
         ensures placed { IfOk result (λ _. PlacedAt hang self.old.part.rows.items self.new.part.rows.items
             self.old.part.hangs.items self.new.part.hangs.items) }
         ensures before { IfErr result (λ _. (self.new.part.rows.items ≡ self.old.part.rows.items)

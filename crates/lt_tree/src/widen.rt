@@ -2,7 +2,7 @@
 ghost use Rattle.std.specs.Prelude.{◌≡◌, ℕ, ◌+◌, ◌<◌, ◌≤◌, ◌∷◌, ◌++◌, take, drop, length, suc, slice_index, IfOk, IfErr, None};
 ghost use Rattle.std.specs.Prelude.{vec_len, vec_capacity};
 ghost use Rattle.lt_rows.specs.Handles.{knows, IsPassOf, IsSamePass};
-ghost use Rattle.lt_tree.specs.States.{OnlyRows, IsRefused};
+ghost use Rattle.lt_tree.specs.States.{OnlyRows, KeepsRows, IsRefused};
 ghost use Rattle.lt_tree.specs.Gathers.{IsLocked, PlacedAt, IsClosed, aside_at};
 ghost use Rattle.lt_tree.specs.Descents.{free_rows};
 
@@ -43,6 +43,7 @@ pub(crate) fn widen_at(
     ensures of { IsPassOf table.now pass.new × IsSamePass pass.old pass.new }
     ensures locked { IsLocked (knows pass.new) tree asked.now here part.new.rows.items part.new.hangs.items }
     ensures only { OnlyRows (knows pass.old) (knows pass.new) }
+    ensures kept { KeepsRows (knows pass.old) (knows pass.new) }
     ensures same { IfErr result (λ _. (part.new.rows.items ≡ part.old.rows.items) × (part.new.hangs.items ≡ part.old.hangs.items)) }
     ensures refused { IfErr result (λ fault. IsRefused (knows pass.old) (knows pass.new) fault) }
     ensures wider { IfOk result (λ _. (free_rows (knows pass.new).held + 1 ≡ free_rows (knows pass.old).held)
@@ -94,6 +95,7 @@ pub(crate) fn gather(
     ensures of { IsPassOf table.now pass.new × IsSamePass pass.old pass.new }
     ensures locked { IsLocked (knows pass.new) tree asked.now here part.new.rows.items part.new.hangs.items }
     ensures only { OnlyRows (knows pass.old) (knows pass.new) }
+    ensures kept { KeepsRows (knows pass.old) (knows pass.new) }
     ensures refused { IfErr result (λ fault. IsRefused (knows pass.old) (knows pass.new) fault) }
     ensures closed { IfOk result (λ _. IsClosed asked.now part.new.rows.items part.new.hangs.items) }
 {

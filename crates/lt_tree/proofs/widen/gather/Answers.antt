@@ -3,7 +3,7 @@ use Rattle.std.specs.Prelude.{slice_index}
 use Rattle.lt_forest.specs.declared.part.PartRow.{PartRow}
 use Rattle.lt_rows.specs.Handles.{knows}
 use Rattle.lt_tree.specs.Gathers.{Passed, aside_at}
-use Rattle.lt_tree.proofs.ViewLaws.{rows_on}
+use Rattle.lt_tree.proofs.ViewLaws.{rows_on, keeps_on}
 use Rattle.lt_tree.proofs.TakingLaws.{long_hangs, read_at}
 use Rattle.lt_tree.proofs.PassingLaws.{passed_next, passed_placed, passed_all}
 use Rattle.lt_tree.proofs.widen.gather.Goals as goal
@@ -28,7 +28,7 @@ loop-at-preserved-then-is_aside c =
     ] in
     let n : suc c.loop-at.at ≡ c.loop-at.at + 1 = omega arith in
     (i.0, i.1, i.2, i.3, subst (Passed c.args.asked.now None c.loop-at.part.rows.items c.loop-at.part.hangs.items) n
-    (passed_next c.args.asked.now None c.loop-at.part.rows.items c.loop-at.part.hangs.items c.loop-at.at h lt i.4 how), omega arith)
+    (passed_next c.args.asked.now None c.loop-at.part.rows.items c.loop-at.part.hangs.items c.loop-at.at h lt i.4 how), omega arith, i.6)
 
 pub loop-at-preserved : goal.loop-at-preserved
 loop-at-preserved c =
@@ -41,7 +41,8 @@ loop-at-preserved c =
     (o.0, (o.1.0 ∙ i.1.0, o.1.1 ∙ i.1.1),
     rows_on (knows c.args.pass.now) (knows c.loop-at.pass) (knows c.widen_at.new.pass) i.2 c.widen_at.ensures.only,
     c.widen_at.ensures.locked,
-    passed_placed c.args.asked.now c.loop-at.part.rows.items c.widen_at.new.part.rows.items c.loop-at.part.hangs.items c.widen_at.new.part.hangs.items c.loop-at.at h lt c.in-Ok.ensures.placed i.4, omega arith)
+    passed_placed c.args.asked.now c.loop-at.part.rows.items c.widen_at.new.part.rows.items c.loop-at.part.hangs.items c.widen_at.new.part.hangs.items c.loop-at.at h lt c.in-Ok.ensures.placed i.4, omega arith,
+    keeps_on (knows c.args.pass.now) (knows c.loop-at.pass) (knows c.widen_at.new.pass) i.6 c.widen_at.ensures.kept)
 
 pub returns-clause-closed : goal.returns-clause-closed
 returns-clause-closed c =

@@ -6,8 +6,8 @@ use Rattle.lt_rows.specs.Nodes.{node_of}
 use Rattle.lt_rows.specs.Views.{rows_of}
 use Rattle.lt_rows.specs.Handles.{knows}
 use Rattle.lt_tree.specs.Gathers.{IsLocked}
-use Rattle.lt_tree.proofs.ViewLaws.{seized_row}
-use Rattle.lt_tree.proofs.TakingLaws.{hang_row, took_hang, widened_at, small_links, fewer, longer, locked_met, long_hangs, row_number}
+use Rattle.lt_tree.proofs.ViewLaws.{seized_row, keeps_met}
+use Rattle.lt_tree.proofs.TakingLaws.{hang_row, took_hang, widened_at, small_links, fewer, longer, locked_met, long_hangs, row_number, hang_keeps}
 use Rattle.lt_tree.proofs.widen.widen_at.Goals as goal
 
 pub seize-requires-clause-row : goal.seize-requires-clause-row
@@ -103,3 +103,14 @@ returns-clause-wider c =
         ∙ (ap (λ (xs : List ℕ). take at xs ++ c.left-left.result ∷ c.right-right.result ∷ drop (suc at) xs) c.reserve-else-is_err.ensures.items
         ∙ ap₂ (λ (x : ℕ) (y : ℕ). take at c.args.part.now.hangs.items ++ x ∷ y ∷ drop (suc at) c.args.part.now.hangs.items) c.left-left.ensures c.right-right.ensures) in
     (fewer t, ap (λ (xs : List ℕ). length xs) hangs ∙ longer t)
+
+pub returns-in-HeldBy-clause-kept : goal.returns-in-HeldBy-clause-kept
+returns-in-HeldBy-clause-kept c = keeps_met (knows c.args.pass.now) (knows c.seize.new.pass) c.in-HeldBy.ensures.seized.0
+
+pub returns-clause-kept : goal.returns-clause-kept
+returns-clause-kept c =
+    let is = row_number c.args.part.now.hangs.items c.reserve-else-is_err.new.self.items c.args.at c.index.result.now
+    c.reserve-else-is_err.ensures.items c.requires.hang.0 c.index.ensures c.requires.hang.1 in
+    let l = c.load_row-image.ensures in
+    hang_keeps (took_hang c.args.table.now.plan c.requires.tree c.requires.of.1 c.requires.locked c.requires.hang.0 is
+    c.in-Taken.ensures.seized l.same l.words.1 l.teaches)
