@@ -1,4 +1,4 @@
-//! The text of events and outcomes, most of which no run of today makes.
+//! The text of events and outcomes, of every kind.
 use crate::{Ended, Outcome, print};
 use lt_ranges::{Key, KeyRange};
 use lt_requests::{Cycle, Edge};
