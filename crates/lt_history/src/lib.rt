@@ -3,9 +3,11 @@
 
 pub mod laws;
 mod outcome;
+mod summing;
 mod transcript;
 
 pub use outcome::{Ended, Outcome};
+pub use summing::summary;
 pub use transcript::print;
 
 #[cfg(test)]

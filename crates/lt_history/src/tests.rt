@@ -1,5 +1,5 @@
-//! The text of events and outcomes, of every kind.
-use crate::{Ended, Outcome, print};
+//! The text of events and outcomes, of every kind, and their numbers.
+use crate::{Ended, Outcome, print, summary};
 use lt_ranges::{Key, KeyRange};
 use lt_requests::{Cycle, Edge};
 use lt_seq::{Deed, Event, Owners, Receipt, Reply};
@@ -86,5 +86,30 @@ fn ways_to_end(rt: HostRuntime) -> Result<(), Fail> {
     let text = print(alloc, &[], &outcomes, 11, 0)?;
     let expected = b"txn 1 aborted\ntxn 2 outoflocks 3 2\ntxn 3 deadlock 3 1 2 3\nend 11 0\n";
     assert_eq!(rt; text.as_slice(), expected.as_slice());
+    Ok(())
+}
+
+#[test]
+fn a_buffered_ask_and_its_free_are_summed(rt: HostRuntime) -> Result<(), Fail> {
+    let alloc = rt.alloc();
+    let range = range_of(b"06987")?;
+    let buffered = Deed::Ask {
+        tree: 1,
+        range,
+        reply: Reply::Buffered,
+    };
+    let free = Deed::Free {
+        tree: 1,
+        range,
+        first: true,
+        count: 1,
+    };
+    let mut receipts = Vec::new(alloc);
+    receipts.push(receipt(0, 1, buffered))?;
+    receipts.push(receipt(1, 1, free))?;
+    let mut outcomes = Vec::new(alloc);
+    outcomes.push(ended(1, Outcome::Done))?;
+    let text = summary(alloc, &receipts, &outcomes)?;
+    assert_eq!(rt; text.as_slice(), b"sum 2 0 1 0 0 1 0 1 0 0 0\n".as_slice());
     Ok(())
 }
