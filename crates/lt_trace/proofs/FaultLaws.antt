@@ -27,7 +27,7 @@ next_length (f ∷ forms) [] form next = omega arith
 next_length (f ∷ forms) (n ∷ ns) form next = let h = next_length forms ns form next in omega arith
 
 -- the rows that go by the text find nothing in a short line with a newline
-fine_text : (number : ℕ) (text : List ℕ) → number ≤ most_lines → length text ≤ most_line_bytes → fault_of_text number (record { bytes = text; ended = true }) ≡ None
+pub fine_text : (number : ℕ) (text : List ℕ) → number ≤ most_lines → length text ≤ most_line_bytes → fault_of_text number (record { bytes = text; ended = true }) ≡ None
 fine_text number text low short =
     by_case (nat_lt most_lines number) (nat_lt most_line_bytes (length text)) (grind (arith, nat_tests)) (grind (arith, nat_tests))
   where

@@ -1,5 +1,5 @@
 -- Numbers in ascending order, each once, and the transactions of some lines.
-use Rattle.std.proofs.Common.{◌≡◌, ℕ, suc, ◌+◌, ◌<◌, List, [], ◌∷◌, ◌++◌, ◌||◌, Bool, true, false, cond, eqb, ltb, fold, map, length, sym, ap, ◌∙◌, refl, arith}
+use Rattle.std.proofs.Common.{◌≡◌, ℕ, suc, ◌+◌, ◌<◌, ◌≤◌, List, [], ◌∷◌, ◌++◌, ◌||◌, ◌&&◌, Bool, true, false, not, cond, eqb, ltb, nat_le, fold, map, length, sym, ap, ◌∙◌, refl, arith}
 use Rattle.std.specs.List.{AllByRecursion}
 use Rattle.std.proofs.lemmas.Bool.{eqb-true, eqb-false, eq-eqb}
 use Rattle.std.proofs.lemmas.Bool.Decides.{nat_tests}
@@ -7,7 +7,7 @@ use Rattle.std.proofs.lemmas.List.{map_push}
 use Rattle.std.proofs.lemmas.List.Sums.{fold-append}
 use Rattle.lt_ranges.specs.Numbers.{is_in, with_number, ascending}
 use Rattle.lt_trace.specs.declared.line.Line.{Line}
-use Rattle.lt_trace.specs.Grammar.{has_begun, txns_of}
+use Rattle.lt_trace.specs.Grammar.{most_txns, has_begun, txns_of}
 
 -- each number is less than those behind it
 abbrev IsUp : List ℕ → Type 0
@@ -116,3 +116,58 @@ txns_more lines line =
     let ns = map (λ (l : Line). l.txn) lines in
     let there : is_in line.txn (txns_of lines) ≡ has_begun line.txn lines = is_in_fold line.txn [] ns ∙ begun_is line.txn lines in
     ap (length {A = ℕ}) (txns_push lines line) ∙ length_with line.txn (txns_of lines) (up_fold [] ns tt) ∙ ap (λ b. length (txns_of lines) + cond b 0 1) there
+
+-- transactions up to a number are at most so many
+abbrev pub IsUpTo : ℕ → Line → Type 0
+IsUpTo most line = (1 ≤ line.txn) × (line.txn ≤ most)
+
+abbrev IsWithin : ℕ → ℕ → ℕ → Type 0
+IsWithin low most n = (low ≤ n) × (n ≤ most)
+
+raised : (low most n : ℕ) (ns : List ℕ) → AllByRecursion (λ m. n < m) ns → AllByRecursion (IsWithin low most) ns → AllByRecursion (IsWithin (n + 1) most) ns
+raised low most n [] up all = tt
+raised low most n (m ∷ ms) up all = let above = up.0 in let below = all.0.1 in ((omega arith, below), raised low most n ms up.1 all.1)
+
+up_length : (low most : ℕ) (ns : List ℕ) → low ≤ most + 1 → IsUp ns → AllByRecursion (IsWithin low most) ns → length ns + low ≤ most + 1
+up_length low most [] room up all = omega arith
+up_length low most (n ∷ ns) room up all =
+    let from = all.0.0 in
+    let up_to = all.0.1 in
+    let rest = up_length (n + 1) most ns (omega arith) up.1 (raised low most n ns up.0 all.1) in
+    omega arith
+
+all_with : (P : ℕ → Type 0) (n : ℕ) (ns : List ℕ) → P n → AllByRecursion P ns → AllByRecursion P (with_number n ns)
+all_with P n [] one all = (one, tt)
+all_with P n (m ∷ ms) one all =
+    chosen (AllByRecursion P) (ltb n m) (n ∷ m ∷ ms) (cond (eqb n m) (m ∷ ms) (m ∷ with_number n ms))
+    (λ _. (one, all))
+    (λ _. chosen (AllByRecursion P) (eqb n m) (m ∷ ms) (m ∷ with_number n ms) (λ _. all) (λ _. (all.0, all_with P n ms one all.1)))
+
+all_fold : (P : ℕ → Type 0) (ns ms : List ℕ) → AllByRecursion P ns → AllByRecursion P ms → AllByRecursion P (fold (λ list n. with_number n list) ns ms)
+all_fold P ns [] all more = all
+all_fold P ns (m ∷ ms) all more = all_fold P (with_number m ns) ms (all_with P m ns more.0 all) more.1
+
+txns_within : (most : ℕ) (lines : List Line) → AllByRecursion (IsUpTo most) lines → AllByRecursion (IsWithin 1 most) (map (λ (l : Line). l.txn) lines)
+txns_within most [] all = tt
+txns_within most (line ∷ lines) all = (all.0, txns_within most lines all.1)
+
+few_txns : (most : ℕ) (lines : List Line) → AllByRecursion (IsUpTo most) lines → length (txns_of lines) ≤ most
+few_txns most lines all =
+    let ns = map (λ (l : Line). l.txn) lines in
+    let bound = up_length 1 most (txns_of lines) (omega arith) (up_fold [] ns tt) (all_fold (IsWithin 1 most) [] ns tt (txns_within most lines all)) in
+    omega arith
+
+pub all_more : (P : Line → Type 0) (lines : List Line) (line : Line) → AllByRecursion P lines → P line → AllByRecursion P (lines ++ line ∷ [])
+all_more P [] line all one = (one, tt)
+all_more P (l ∷ ls) line all one = (all.0, all_more P ls line all.1 one)
+
+-- and so a line of one of them begins no transaction too many
+pub has_room : (most : ℕ) (lines : List Line) (line : Line) → most ≤ most_txns → AllByRecursion (IsUpTo most) lines → IsUpTo most line
+    → (not (has_begun line.txn lines) && nat_le most_txns (length (txns_of lines))) ≡ false
+has_room most lines line few all one =
+    let bound = few_txns most (lines ++ line ∷ []) (all_more (IsUpTo most) lines line all one) in
+    by_case (has_begun line.txn lines) (length (txns_of lines)) (omega (arith, txns_more lines line))
+  where
+    by_case : (begun : Bool) (n : ℕ) → n + cond begun 0 1 ≤ most_txns → (not begun && nat_le most_txns n) ≡ false
+    by_case true n bound = refl
+    by_case false n bound = grind (arith, nat_tests)

@@ -3,8 +3,10 @@ ghost use Rattle.std.specs.Prelude.{◌≡◌, ℕ, ◌<◌, ◌≤◌, List, []
 ghost use Rattle.lt_trace.specs.declared.fault.TraceFault.{TraceFault};
 ghost use Rattle.lt_trace.specs.declared.line.Line.{Line};
 ghost use Rattle.lt_trace.specs.FaultRows.{FaultRows};
+ghost use Rattle.lt_trace.specs.Generator.{generated};
+ghost use Rattle.lt_trace.specs.GeneratorRows.{GeneratorRows};
 ghost use Rattle.lt_trace.specs.Trace.{TraceView};
-ghost use Rattle.lt_trace.specs.Grammar.{deciding_bytes, Front, IsFront, IsFaultless, IsFirstFault, Spells, header_forms};
+ghost use Rattle.lt_trace.specs.Grammar.{deciding_bytes, Front, IsFront, IsFaultless, IsFirstFault, IsTrace, Spells, header_forms};
 
 /// Worked refusals come out so.
 pub fn fault_rows()
@@ -37,4 +39,14 @@ pub fn first_bytes_decide()
     ensures trace { (bytes : List ℕ) (trace : TraceView) → Spells bytes trace → length bytes < deciding_bytes }
     ensures fault { (bytes more : List ℕ) (fault : TraceFault) → deciding_bytes ≤ length bytes → IsFirstFault bytes fault →
         IsFirstFault (bytes ++ more) fault }
+{}
+
+/// Worked draws of the generator, and a worked trace, come out so.
+pub fn generator_rows()
+    ensures { GeneratorRows }
+{}
+
+/// What the generator makes is a trace: it has a spelling, and has no fault.
+pub fn generated_traces()
+    ensures { (seed txns lines : ℕ) → 1 ≤ txns → txns ≤ 1024 → lines ≤ 64512 → IsTrace (generated seed txns lines) }
 {}

@@ -1,9 +1,9 @@
-//! Worked traces: what is read and written, and what is refused.
+//! Worked traces: what is read and written, what is refused, and what is made of a seed.
 use crate::TraceFault::{
     AfterEnd, Backwards, BadHeader, BadLine, KeyTooLong, LineTooLong, NoFinalNewline, TooManyLines,
     TooManyTxns, TreeOutOfRange,
 };
-use crate::{LineDeed, TraceFault, number, read, write};
+use crate::{LineDeed, MOST_DRAWN_LINES, TraceFault, make, number, read, write};
 use lt_ranges::{Key, KeyRange};
 use std::alloc::{AllocError, Global};
 use std::test::Fail;
@@ -286,4 +286,26 @@ fn numbers_are_read(rt: HostRuntime) {
     assert_eq!(rt; number(b"0", 0, 9), Some(0));
     assert_eq!(rt; number(b"+4", 0, 9), None);
     assert_eq!(rt; number(b"", 0, 9), None);
+}
+
+#[test]
+fn one_line_of_the_seed_0(rt: HostRuntime) -> Result<(), Fail> {
+    let trace = make(rt.alloc(), 0, 1, 1)?;
+    let text = write(rt.alloc(), &trace)?;
+    let expected =
+        b"rangelock 1\ntrees 2\nlimit 4096\nbuffer 512\n1 try 1 \"06987\" \"06987\"\n1 end\n";
+    assert_eq!(rt; text.as_slice(), expected.as_slice());
+    Ok(())
+}
+
+#[test]
+fn made_traces_are_read_again(rt: HostRuntime) -> Result<(), Fail> {
+    for (seed, txns, lines) in [(7, 40, 1_000), (u64::MAX, 1_024, MOST_DRAWN_LINES)] {
+        let made = make(rt.alloc(), seed, txns, lines)?;
+        let text = write(rt.alloc(), &made)?;
+        let trace = read(rt.alloc(), &text)?;
+        assert_eq!(rt; trace.lines().len(), (lines + txns) as usize);
+        assert!(rt; trace.lines() == made.lines());
+    }
+    Ok(())
 }
