@@ -10,3 +10,4 @@ pub mod StartLaws
 pub mod ClosingLaws
 pub mod ReleaseLaws
 pub mod PartLaws
+pub mod ClosedLaws

@@ -21,13 +21,14 @@ use Rattle.lt_rows.specs.Gaps.{gap_for}
 use Rattle.lt_rows.specs.Lawful.{shown, KnowsTop}
 use Rattle.lt_rows.specs.Teaching.{Teaches}
 use Rattle.lt_rows.specs.Handles.{IsGathering}
-use Rattle.lt_tree.specs.States.{OnlyMet, Seizes, KeepsRows}
+use Rattle.lt_tree.specs.States.{OnlyMet, Seizes, KeepsRows, HasWords}
 use Rattle.lt_tree.specs.Descents.{free_rows}
-use Rattle.lt_tree.specs.Gathers.{IsLocked}
+use Rattle.lt_tree.specs.Gathers.{IsLocked, IsClosed}
 use Rattle.lt_tree.proofs.ViewLaws.{seized_else, met_rows, met_gathers, seized_has, has_loaded}
 use Rattle.lt_tree.proofs.DownLaws.{free_take}
 use Rattle.lt_forest.proofs.PartLaws.{map_long}
-use Rattle.lt_tree.proofs.WideningLaws.{names, hang_free, widened, not_there}
+use Rattle.lt_tree.proofs.WideningLaws.{names, hang_free, widened, not_there, IsWider}
+use Rattle.lt_tree.proofs.ClosedLaws.{still_closed}
 
 pub split_at : (xs : List ℕ) (i x : ℕ) → i < length xs → x ≡ get_or xs i 0 → xs ≡ take i xs ++ x ∷ drop (suc i) xs
 split_at [] i x lt e = absurd (omega arith)
@@ -123,24 +124,46 @@ module _ {v w : View} {tree : ℕ} {asked : Interval} {here : ℕ} {rows : List 
   few : at ≤ length rows
   few = let h = long_hangs v tree asked here rows hangs t.was in let i = t.inside in omega arith
 
-  pub widened_at : IsLocked w tree asked here (take at rows ++ record { row = r; owner = (node_of words).owner; range = (node_of words).range } ∷ drop at rows)
-      (take at hangs ++ (node_of words).left ∷ (node_of words).right ∷ drop (suc at) hangs)
-  widened_at =
-      widened v tree asked here rows hangs t.was t.in_range w r (take at hangs) (drop (suc at) hangs) (split_at hangs at (r + 1) t.inside link) t.seizes t.teaches words
+  -- the rows and the hangs that the part has then
+  abbrev new_rows : List PartRow
+  new_rows = take at rows ++ record { row = r; owner = (node_of words).owner; range = (node_of words).range } ∷ drop at rows
+
+  abbrev new_hangs : List ℕ
+  new_hangs = take at hangs ++ (node_of words).left ∷ (node_of words).right ∷ drop (suc at) hangs
+
+  wider_at : IsWider v tree asked here rows hangs t.was t.in_range w r (take at hangs) (drop (suc at) hangs)
+      (split_at hangs at (r + 1) t.inside link) t.seizes t.teaches words new_rows new_hangs
+  wider_at = record {
+    ahead = take at rows;
+    behind = drop at rows;
+    old = sym (take-append-drop at rows);
+    place_is = length-take-le at rows few ∙ sym (length-take-le at hangs (let i = t.inside in omega arith));
+    new_rows = refl;
+    new_hangs = refl;
+  }
+
+  row_has : HasWords w r words
+  row_has = has_loaded w r t.seizes.2.0 words t.words_is (seized_has r v w t.seizes)
+
+  pub widened_at : IsLocked w tree asked here
       (take at rows ++ record { row = r; owner = (node_of words).owner; range = (node_of words).range } ∷ drop at rows)
       (take at hangs ++ (node_of words).left ∷ (node_of words).right ∷ drop (suc at) hangs)
-      (has_loaded w r t.seizes.2.0 words t.words_is (seized_has r v w t.seizes))
-      (record {
-        ahead = take at rows;
-        behind = drop at rows;
-        old = sym (take-append-drop at rows);
-        place_is = length-take-le at rows few ∙ sym (length-take-le at hangs (let i = t.inside in omega arith));
-        new_rows = refl;
-        new_hangs = refl;
-      })
+  widened_at =
+      widened v tree asked here rows hangs t.was t.in_range w r (take at hangs) (drop (suc at) hangs)
+      (split_at hangs at (r + 1) t.inside link) t.seizes t.teaches words new_rows new_hangs row_has wider_at
 
   plan_is : w.plan ≡ v.plan
   plan_is = ap (λ (x : View). x.plan) t.seizes.2.3 ∙ ap (λ (x : View). x.plan) t.seizes.1.0
+
+  in_range_then : tree < w.plan.trees
+  in_range_then = subst (λ k. tree < k.trees) (sym plan_is) t.in_range
+
+  pub closed_at : IsClosed asked rows hangs → IsClosed asked
+      (take at rows ++ record { row = r; owner = (node_of words).owner; range = (node_of words).range } ∷ drop at rows)
+      (take at hangs ++ (node_of words).left ∷ (node_of words).right ∷ drop (suc at) hangs)
+  closed_at closed =
+      still_closed v tree asked here rows hangs t.was t.in_range w r (take at hangs) (drop (suc at) hangs)
+      (split_at hangs at (r + 1) t.inside link) t.seizes t.teaches in_range_then words new_rows new_hangs row_has wider_at closed
 
   pub small_links : ((node_of words).left ≤ rows_of v.plan) × ((node_of words).right ≤ rows_of v.plan)
   small_links =

@@ -160,14 +160,14 @@ module _ (v : View) (tree : ℕ) (asked : Interval) (here : ℕ) (rows : List Pa
         subst (λ (n : Node). Shows (shown w []) (link_at l.place n) l.sub) (sym (same_node here here_in))
         (on_cut (shown v []) (shown w []) (link_at l.place (shown v [] here)) l.sub (λ q more. sym (same_node q (l.held_rows q (omega arith)))) l.shows)
 
-    wide : Widens (shown w []) (link_at l.place (shown w [] here)) l.sub r xs ys
+    pub wide : Widens (shown w []) (link_at l.place (shown w [] here)) l.sub r xs ys
     wide = widens (shown w []) (link_at l.place (shown w [] here)) l.sub r xs ys w_shows (l.hangs_are ∙ at_hang)
 
     knows_on : (top : Top) → KnowsTop v tree top l.score → TopHeld (IsIn (has v)) tree top → KnowsTop w tree top l.score
     knows_on from_anchor k top_held = ap (λ (x : Option Row). mode_of (image_of x)) (in_has tree top_held) ∙ k
     knows_on (from_row h g) k top_held = (k.0, stays_at h (k.0, k.1) ∙ k.1, k.2)
 
-    rows_old : rows_of (shown w []) l.sub ≡ rows
+    pub rows_old : rows_of (shown w []) l.sub ≡ rows
     rows_old = on_rows (shown w []) (shown v []) (in_order (bare l.sub)) (λ q more. same_node q (l.held_rows q (omega arith))) ∙ l.rows_are
 
     w_held : (q : ℕ) → IsIn (has v) q → IsIn (has w) q
@@ -228,3 +228,9 @@ module _ (v : View) (tree : ℕ) (asked : Interval) (here : ℕ) (rows : List Pa
         all_new q t h = dite (ℕ_discrete q r)
             (λ e. let o : one_if (nat_eq r q) ≡ 1 = ap one_if (eq-eqb r q (sym e)) in omega arith)
             (λ ne. let a = l.held_all q (h.0, sym (seized_else r v w s q ne) ∙ h.1) in omega arith)
+
+    -- its cut is the wider one
+    pub widened_cut : (words : List ℕ) (rows' : List PartRow) (hangs' : List ℕ) (has_r : HasWords w r words) (x : IsWider words rows' hangs')
+        → (widened words rows' hangs' has_r x).sub ≡ wide.wider
+    unfolding widened
+    widened_cut words rows' hangs' has_r x = refl

@@ -134,7 +134,8 @@ impl<'a> Locked<'a> {
         &self.part
     }
 
-    /// Takes the top row of the subtree that hangs at this index into the part. After a refusal the state is as before.
+    /// Takes the top row of the subtree that hangs at this index into the part, which stays closed. After a refusal the state is as
+    /// before.
     ///
     /// # Errors
     /// `Busy` only where that row was met held by another pass, which never comes to a pass with all the rights; or want of memory.
@@ -147,6 +148,8 @@ impl<'a> Locked<'a> {
             × (self.new.held ≡ self.old.held) }
         ensures locked { IsLocked (knows self.new.pass) self.new.tree self.new.asked self.new.held self.new.part.rows.items
             self.new.part.hangs.items }
+        ensures closed { IsClosed self.old.asked self.old.part.rows.items self.old.part.hangs.items
+            → IsClosed self.new.asked self.new.part.rows.items self.new.part.hangs.items }
         ensures rows { KeepsRows (knows self.old.pass) (knows self.new.pass) }
         ensures placed { IfOk result (λ _. PlacedAt hang self.old.part.rows.items self.new.part.rows.items
             self.old.part.hangs.items self.new.part.hangs.items) }

@@ -48,6 +48,8 @@ pub(crate) fn widen_at(
     ensures refused { IfErr result (λ fault. IsRefused (knows pass.old) (knows pass.new) fault) }
     ensures wider { IfOk result (λ _. (free_rows (knows pass.new).held + 1 ≡ free_rows (knows pass.old).held)
         × (length part.new.hangs.items ≡ length part.old.hangs.items + 1)) }
+    ensures closed { IsClosed asked.now part.old.rows.items part.old.hangs.items
+        → IsClosed asked.now part.new.rows.items part.new.hangs.items }
     ensures placed { IfOk result (λ _.
         PlacedAt at part.old.rows.items part.new.rows.items part.old.hangs.items part.new.hangs.items) }
 {

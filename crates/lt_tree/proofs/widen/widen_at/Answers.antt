@@ -5,9 +5,10 @@ use Rattle.lt_forest.specs.declared.part.PartRow.{PartRow}
 use Rattle.lt_rows.specs.Nodes.{node_of}
 use Rattle.lt_rows.specs.Views.{rows_of}
 use Rattle.lt_rows.specs.Handles.{knows}
-use Rattle.lt_tree.specs.Gathers.{IsLocked}
+use Rattle.lt_tree.specs.Gathers.{IsLocked, IsClosed}
 use Rattle.lt_tree.proofs.ViewLaws.{seized_row, keeps_met}
-use Rattle.lt_tree.proofs.TakingLaws.{hang_row, took_hang, widened_at, small_links, fewer, longer, locked_met, long_hangs, row_number, hang_keeps}
+use Rattle.lt_tree.proofs.TakingLaws.{hang_row, took_hang, widened_at, small_links, fewer, longer, locked_met, long_hangs, row_number, hang_keeps, closed_at}
+use Rattle.lt_tree.proofs.ClosedLaws.{closed_same}
 use Rattle.lt_tree.proofs.widen.widen_at.Goals as goal
 
 pub seize-requires-clause-row : goal.seize-requires-clause-row
@@ -114,3 +115,33 @@ returns-clause-kept c =
     let l = c.load_row-image.ensures in
     hang_keeps (took_hang c.args.table.now.plan c.requires.tree c.requires.of.1 c.requires.locked c.requires.hang.0 is
     c.in-Taken.ensures.seized l.same l.words.1 l.teaches)
+
+pub returns-clause-closed : goal.returns-clause-closed
+returns-clause-closed c closed =
+    let is = row_number c.args.part.now.hangs.items c.reserve-else-is_err.new.self.items c.args.at c.index.result.now
+    c.reserve-else-is_err.ensures.items c.requires.hang.0 c.index.ensures c.requires.hang.1 in
+    let l = c.load_row-image.ensures in
+    let t = took_hang c.args.table.now.plan c.requires.tree c.requires.of.1 c.requires.locked c.requires.hang.0 is c.in-Taken.ensures.seized l.same l.words.1 l.teaches in
+    let at = c.args.at in
+    let rows : c.put_in.new.part.rows.items ≡ take at c.args.part.now.rows.items
+    ++ record { row = c.index.result.now - 1; owner = (node_of c.load_row-image.result.words).owner; range = (node_of c.load_row-image.result.words).range }
+    ∷ drop at c.args.part.now.rows.items =
+        c.put_in.ensures.rows
+        ∙ (ap (λ (xs : List PartRow). take at xs ++ record { row = c.index.result.now - 1; owner = c.owner-owner.result; range = c.range-range.result } ∷ drop at xs) c.reserve.ensures.items
+        ∙ ap₂ (λ (o : ℕ) (r : Interval). take at c.args.part.now.rows.items ++ record { row = c.index.result.now - 1; owner = o; range = r } ∷ drop at c.args.part.now.rows.items)
+        c.owner-owner.ensures c.range-range.ensures) in
+    let hangs : c.put_in.new.part.hangs.items ≡ take at c.args.part.now.hangs.items
+    ++ (node_of c.load_row-image.result.words).left ∷ (node_of c.load_row-image.result.words).right ∷ drop (suc at) c.args.part.now.hangs.items =
+        c.put_in.ensures.hangs
+        ∙ (ap (λ (xs : List ℕ). take at xs ++ c.left-left.result ∷ c.right-right.result ∷ drop (suc at) xs) c.reserve-else-is_err.ensures.items
+        ∙ ap₂ (λ (x : ℕ) (y : ℕ). take at c.args.part.now.hangs.items ++ x ∷ y ∷ drop (suc at) c.args.part.now.hangs.items) c.left-left.ensures c.right-right.ensures) in
+    subst (λ (xs : List PartRow). IsClosed c.args.asked.now xs c.put_in.new.part.hangs.items) (sym rows)
+    (subst (λ (xs : List ℕ). IsClosed c.args.asked.now
+    (take at c.args.part.now.rows.items
+    ++ record { row = c.index.result.now - 1; owner = (node_of c.load_row-image.result.words).owner; range = (node_of c.load_row-image.result.words).range }
+    ∷ drop at c.args.part.now.rows.items) xs) (sym hangs) (closed_at t closed))
+
+pub returns-in-HeldBy-clause-closed : goal.returns-in-HeldBy-clause-closed
+returns-in-HeldBy-clause-closed c closed =
+    closed_same c.args.asked.now c.args.part.now.rows.items c.reserve.new.self.items c.args.part.now.hangs.items
+    c.reserve-else-is_err.new.self.items c.reserve.ensures.items c.reserve-else-is_err.ensures.items closed
