@@ -11,3 +11,4 @@ pub mod ClosingLaws
 pub mod ReleaseLaws
 pub mod PartLaws
 pub mod ClosedLaws
+pub mod AnchorLaws

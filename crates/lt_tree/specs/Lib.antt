@@ -3,3 +3,4 @@ pub mod Puttings
 pub mod Descents
 pub mod Gathers
 pub mod LawsOfParts
+pub mod Anchors

@@ -13,4 +13,4 @@ mod widen;
 
 pub use descent::{Stop, descend};
 pub use locked::Locked;
-pub use prepare::{Prepared, try_prepare};
+pub use prepare::{Anchor, Prepared, try_prepare};

@@ -4,6 +4,7 @@ ghost use Rattle.std.specs.Prelude.{vec_len, vec_capacity};
 ghost use Rattle.lt_ranges.specs.Interval.{IsInterval};
 ghost use Rattle.lt_forest.specs.Forest.{IsTree};
 ghost use Rattle.lt_rows.specs.Nodes.{mode_of};
+ghost use Rattle.lt_rows.specs.Views.{IsHeld, row_at, words_of};
 ghost use Rattle.lt_rows.specs.Handles.{knows, IsPassOf, IsSamePass};
 ghost use Rattle.lt_tree.specs.States.{HoldsNone, OnlyHeld, OnlyRows, KeepsRows, IsRefused};
 ghost use Rattle.lt_tree.specs.Descents.{Stays, IsLast};
@@ -16,7 +17,7 @@ use crate::put::put_part;
 use crate::widen::{gather, widen_at};
 use lt_forest::Part;
 use lt_ranges::KeyRange;
-use lt_rows::{RowPass, RowTable};
+use lt_rows::{RowImage, RowPass, RowTable};
 use lt_seq::Fault;
 use std::alloc::Global;
 
@@ -132,6 +133,17 @@ impl<'a> Locked<'a> {
         ensures { result.now ≡ self.now.part }
     {
         &self.part
+    }
+
+    /// The words of a row that is held: the row that stays, or one of the part.
+    pub fn image(&mut self, row: u32) -> RowImage
+        requires held { IsHeld (knows self.old.pass) row }
+        ensures same { IsSamePass self.old.pass self.new.pass × (knows self.new.pass ≡ knows self.old.pass) }
+        ensures kept { (self.new.table ≡ self.old.table) × (self.new.tree ≡ self.old.tree) × (self.new.asked ≡ self.old.asked)
+            × (self.new.held ≡ self.old.held) × (self.new.part ≡ self.old.part) }
+        ensures words { (result.row ≡ row) × (result.words ≡ words_of (row_at (knows self.old.pass) row)) }
+    {
+        self.table.load_row(&mut self.pass, row)
     }
 
     /// Takes the top row of the subtree that hangs at this index into the part, which stays closed. After a refusal the state is as

@@ -1,8 +1,10 @@
 //! A tree's anchor, taken.
 ghost use Rattle.std.specs.Prelude.{◌≡◌, ◌<◌, IfOk, IfErr};
+ghost use Rattle.lt_rows.specs.Nodes.{node_of, mode_of};
 ghost use Rattle.lt_rows.specs.Handles.{knows, IsPassOf, IsSamePass};
 ghost use Rattle.lt_rows.specs.Teaching.{Teaches};
 ghost use Rattle.lt_tree.specs.States.{HoldsNone, HoldsOnly, OnlyRows, IsPrepared, IsRefused, IsBusyAt};
+ghost use Rattle.lt_tree.specs.Anchors.{ShowsMode};
 
 use crate::seize::seize;
 use lt_rows::{RowImage, RowPass, RowTable, Take};
@@ -19,6 +21,19 @@ pub struct Prepared<'a> {
     ghost of: { IsPassOf table.now pass },
     ghost taught: { ∥ Teaches (knows pass) ∥₁ },
     ghost prepared: { (0 < pass.rights) × (tree < table.now.plan.trees) × IsPrepared (knows pass) tree image },
+}
+
+/// What a tree's anchor shows.
+#[derive(Clone, Copy, Debug, PartialEq, Eq)]
+pub struct Anchor {
+    /// The link to the tree's top row, or to the first row of its buffer: 0 for none, and else a row's number plus 1.
+    pub top: u32,
+    /// The transaction of the buffer, or 0 in Tree mode.
+    pub buffer_txn: u64,
+    /// The number of the buffer's rows.
+    pub buffered: u64,
+    /// The score in Tree mode.
+    pub score: u64,
 }
 
 /// Takes the tree's anchor, which is tried at most 1 + spins times.
@@ -58,6 +73,19 @@ pub fn try_prepare<'a>(
 }
 
 impl<'a> Prepared<'a> {
+    /// What the anchor shows.
+    pub fn anchor(&self) -> Anchor
+        ensures top { result.top ≡ (node_of self.now.image.words).left }
+        ensures mode { ShowsMode (mode_of self.now.image.words) result }
+    {
+        Anchor {
+            top: self.image.left() as u32,
+            buffer_txn: self.image.owner(),
+            buffered: self.image.words[20],
+            score: self.image.words[19],
+        }
+    }
+
     /// The pass, which holds the anchor and no other row.
     pub fn into_pass(self) -> RowPass
         ensures of { IsPassOf self.entry.table.now result × IsSamePass self.entry.pass result }
