@@ -97,9 +97,11 @@ module _ {v w : View} {tree : ℕ} {asked : Interval} {here : RowImage} {link st
   still : (q : ℕ) → 0 < times q above → IsHeld u' q
   still q more =
       let h0 = (t.was.kept q more).0 in
-      let h = above_held t q more in
-      (h.0, put_else u u' (link - 1) put' there' q (not_held v tree asked here link steps above t.was t.in_range t.some q h0)
-      ∙ (put_else w u here.row put there q (other q more) ∙ h.1))
+      let h = above_held t q more in (
+        h.0,
+        put_else u u' (link - 1) put' there' q (not_held v tree asked here link steps above t.was t.in_range t.some q h0)
+            ∙ (put_else w u here.row put there q (other q more) ∙ h.1),
+      )
 
   all : (q : ℕ) → IsHeld u' q → 0 < times q above
   all q h =

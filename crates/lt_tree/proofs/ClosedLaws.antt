@@ -66,7 +66,7 @@ module _ (v : View) (tree : ℕ) (asked : Interval) (here : ℕ) (rows : List Pa
       let k = wide v tree asked here rows hangs l lt w r xs ys at_hang s teaches in
       let cut_is : n.sub ≡ k.wider = widened_cut v tree asked here rows hangs l lt w r xs ys at_hang s teaches words rows' hangs' has_r x in
       let new = widened_aside (shown w []) (link_at l.place (shown w [] here)) l.sub r xs ys k asked
-          (subst (λ (c : Cut). IsLawful (pairs_in (shown w []) (bare c))) cut_is (sub_lawful w tree asked here rows' hangs' n lt')) (was_aside closed) in
+      (subst (λ (c : Cut). IsLawful (pairs_in (shown w []) (bare c))) cut_is (sub_lawful w tree asked here rows' hangs' n lt')) (was_aside closed) in
       subst (λ (rs : List PartRow). AllAside asked (hanging rs hangs' None None))
       (subst (λ (c : Cut). rows_of (shown w []) c ≡ rows') cut_is n.rows_are)
       (subst (λ (ls : List ℕ). AllAside asked (hanging (rows_of (shown w []) k.wider) ls None None))

@@ -164,19 +164,27 @@ module _ (v : View) (tree : ℕ) (asked : Interval) (here : RowImage) (link step
     where
       by_mode : (m : Mode) → mode_of here.words ≡ m → IsTree m → here.row ≡ tree → link ≡ (node_of here.words).left → ChildGap
       by_mode (TreeMode score) em is row left =
-          let h = held_row v here.row d.has.0 in
-          (record { tree = tree; low = None; high = None; score = score },
-          gap_at_top v log st r tree score h.0 lt (subst (λ (n : ℕ). Holds v n h.0) row h.1) (ap mode_of (image_now h.0 h.1) ∙ em) (left_now h.0 h.1 left),
-          refl, (tt, tt))
+          let h = held_row v here.row d.has.0 in (
+            record { tree = tree; low = None; high = None; score = score },
+            gap_at_top v log st r tree score h.0 lt (subst (λ (n : ℕ). Holds v n h.0) row h.1) (ap mode_of (image_now h.0 h.1) ∙ em) (left_now h.0 h.1 left),
+            refl,
+            (tt, tt),
+          )
       by_mode (Buffer txn count) em is row left = absurd is
 
       below : (row : Row) (g : SeenGap) → Holds v here.row row → row.gap ≡ Some g → g.tree ≡ tree → IsInside g.low g.high asked → v.plan.trees ≤ here.row → GoesTo asked (node_of here.words) link → ChildGap
-      below row g held gap t inside le (inl goes) =
-          (record g { high = Some (node_of row.image).range.left }, gap_at_left v log st r here.row row g le held gap (left_now row held goes.1), t,
-          (inside.0, ap (λ (ws : List ℕ). before asked (node_of ws).range) (image_now row held) ∙ goes.0))
-      below row g held gap t inside le (inr goes) =
-          (record g { low = Some (node_of row.image).range.right }, gap_at_right v log st r here.row row g le held gap (right_now row held goes.1), t,
-          (ap (λ (ws : List ℕ). before (node_of ws).range asked) (image_now row held) ∙ goes.0, inside.1))
+      below row g held gap t inside le (inl goes) = (
+        record g { high = Some (node_of row.image).range.left },
+        gap_at_left v log st r here.row row g le held gap (left_now row held goes.1),
+        t,
+        (inside.0, ap (λ (ws : List ℕ). before asked (node_of ws).range) (image_now row held) ∙ goes.0),
+      )
+      below row g held gap t inside le (inr goes) = (
+        record g { low = Some (node_of row.image).range.right },
+        gap_at_right v log st r here.row row g le held gap (right_now row held goes.1),
+        t,
+        (ap (λ (ws : List ℕ). before (node_of ws).range asked) (image_now row held) ∙ goes.0, inside.1),
+      )
 
       go : Spot v tree asked here link → ChildGap
       go (at_anchor row mode is) = by_mode (mode_of here.words) refl mode row is

@@ -60,14 +60,18 @@ module _ (w u : View) (p : ℕ) (e : u ≡ with_row w p None) (there : (row : Ro
   put_back q row h = sym (put_else q (put_differs q (row, h))) ∙ h
 
   pub put_teaches : Teaches w → Teaches u
-  put_teaches t = subst Teaches (sym e) (t.0, t.1, record {
-    forest = t.2.forest;
-    contents = t.2.contents;
-    shape = t.2.shape;
-    agrees = λ q row h. t.2.agrees q row (back q row h);
-    gaps = λ q row g h is. t.2.gaps q row g (back q row h) is;
-    licence = t.2.licence;
-  })
+  put_teaches t = subst Teaches (sym e) (
+    t.0,
+    t.1,
+    record {
+      forest = t.2.forest;
+      contents = t.2.contents;
+      shape = t.2.shape;
+      agrees = λ q row h. t.2.agrees q row (back q row h);
+      gaps = λ q row g h is. t.2.gaps q row g (back q row h) is;
+      licence = t.2.licence;
+    },
+  )
     where
       back : (q : ℕ) (row : Row) → Holds (with_row w p None) q row → Holds w q row
       back q row h = put_back q row (subst (λ (x : View). Holds x q row) (sym e) h)
@@ -253,11 +257,13 @@ module _ {v w : View} {tree : ℕ} {asked : Interval} {here : RowImage} {link st
 
     keep_kept : (q : ℕ) → 0 < times q above' → IsAbove w tree q child.row
     keep_kept q more =
-        let h = was_held q more in
-        ((h.0, held_before q h ∙ h.1), elim (leads_on v tree asked here link steps above t.was t.in_range t.some q h) [
-          | inl is ↦ inl is
-          | inr l ↦ inr (child_further, leads_now q l)
-        ])
+        let h = was_held q more in (
+          (h.0, held_before q h ∙ h.1),
+          elim (leads_on v tree asked here link steps above t.was t.in_range t.some q h) [
+            | inl is ↦ inl is
+            | inr l ↦ inr (child_further, leads_now q l)
+          ],
+        )
 
     keep_once : (q : ℕ) → times q above' ≤ 1
     keep_once q = elim (one_or q) [

@@ -67,14 +67,18 @@ locked_met v w tree asked here rows hangs m l =
       held_all = l.held_all;
       rows_are = l.rows_are;
       hangs_are = l.hangs_are;
-      teaches = (l.teaches.0, l.teaches.1, record {
-        forest = l.teaches.2.forest;
-        contents = l.teaches.2.contents;
-        shape = l.teaches.2.shape;
-        agrees = l.teaches.2.agrees;
-        gaps = l.teaches.2.gaps;
-        licence = l.teaches.2.licence;
-      });
+      teaches = (
+        l.teaches.0,
+        l.teaches.1,
+        record {
+          forest = l.teaches.2.forest;
+          contents = l.teaches.2.contents;
+          shape = l.teaches.2.shape;
+          agrees = l.teaches.2.agrees;
+          gaps = l.teaches.2.gaps;
+          licence = l.teaches.2.licence;
+        },
+      );
       gathers = subst IsGathering m.0 (met_gathers v w m l.gathers);
     })
   where

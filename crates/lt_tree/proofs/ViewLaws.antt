@@ -158,7 +158,7 @@ pub prepared_loaded : (v w : View) (tree : ℕ) (image loaded : RowImage) → Is
     → loaded.words ≡ words_of (row_at v tree) → IsPrepared w loaded.row loaded
 prepared_loaded v w tree image loaded p same row words = (
   subst (λ (n : ℕ). HasWords w n loaded.words) (sym row)
-  (same_has v w tree loaded.words same (has_loaded v tree image.words loaded.words words p.0)),
+      (same_has v w tree loaded.words same (has_loaded v tree image.words loaded.words words p.0)),
   refl,
   subst (HoldsOnly w) (sym row) (same_only v w tree same p.2),
 )

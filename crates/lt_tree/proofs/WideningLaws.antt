@@ -23,7 +23,7 @@ use Rattle.lt_rows.specs.declared.view.View.{View}
 use Rattle.lt_rows.specs.declared.view.Row.{Row}
 use Rattle.lt_rows.specs.declared.take.Take.TheVariants.{Taken}
 use Rattle.lt_rows.specs.Nodes.{node_of, mode_of}
-use Rattle.lt_rows.specs.Views.{IsHeld, row_at, has, is_some, image_of} 
+use Rattle.lt_rows.specs.Views.{IsHeld, row_at, has, is_some, image_of}
 use Rattle.lt_rows.specs.Views.{rows_of as all_rows}
 use Rattle.lt_rows.specs.Lawful.{shown, KnowsTop}
 use Rattle.lt_rows.specs.Teaching.{Teaches}
@@ -191,9 +191,9 @@ module _ (v : View) (tree : ℕ) (asked : Interval) (here : ℕ) (rows : List Pa
         let node_r : shown w [] r ≡ node_of words = ap node_of has_r.2 in
         let pr : List ℕ → List PartRow = map (part_row (shown w [])) in
         let split : (pr wide.rows_before ≡ x.ahead) × (pr wide.rows_behind ≡ x.behind) =
-            split_same (map (part_row (shown w [])) wide.rows_before) (map (part_row (shown w [])) wide.rows_behind) x.ahead x.behind
-            (sym (map_app (part_row (shown w [])) wide.rows_before wide.rows_behind) ∙ (ap (map (part_row (shown w []))) (sym wide.old_rows) ∙ (rows_old ∙ x.old)))
-            (map_long (part_row (shown w [])) wide.rows_before ∙ (wide.place ∙ sym x.place_is)) in
+        split_same (map (part_row (shown w [])) wide.rows_before) (map (part_row (shown w [])) wide.rows_behind) x.ahead x.behind
+        (sym (map_app (part_row (shown w [])) wide.rows_before wide.rows_behind) ∙ (ap (map (part_row (shown w []))) (sym wide.old_rows) ∙ (rows_old ∙ x.old)))
+        (map_long (part_row (shown w [])) wide.rows_before ∙ (wide.place ∙ sym x.place_is)) in
         record {
           place = l.place;
           top = l.top;

@@ -88,7 +88,8 @@ abbrev pub Passed : Interval → Bound → List PartRow → List ℕ → ℕ →
 Passed asked x rows hangs zero = Unit {0}
 Passed asked x rows [] (suc n) = Unit {0}
 Passed asked x [] (l ∷ ls) (suc n) = (l ≡ 0) ⊎ IsAside asked (l, x, None)
-Passed asked x (r ∷ rows) (l ∷ ls) (suc n) = ((l ≡ 0) ⊎ IsAside asked (l, x, Some r.range.left)) × Passed asked (Some r.range.right) rows ls n
+Passed asked x (r ∷ rows) (l ∷ ls) (suc n) =
+    ((l ≡ 0) ⊎ IsAside asked (l, x, Some r.range.left)) × Passed asked (Some r.range.right) rows ls n
 
 -- all that hangs is aside
 abbrev pub IsClosed : Interval → List PartRow → List ℕ → Type 0

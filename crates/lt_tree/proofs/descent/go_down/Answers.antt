@@ -33,10 +33,13 @@ moved tb p0 p q tree asked here link steps steps' above above' e f g of same onl
     (of, same, only, subst (λ (x : ℕ). Descends (knows p) tree asked here link x above') (sym f) (subst (Descends (knows p) tree asked here link steps) (sym g) d))
 
 pub loop-link-init : goal.loop-link-init
-loop-link-init c =
-    (c.requires.of, (refl, refl), rows_same (knows c.args.pass.now),
-    descends_first (knows c.args.pass.now) c.args.asked.now c.args.anchor.now c.left-link.result c.budget-steps.result c.args.above.now.items
-    c.requires.prepared.0 c.requires.prepared.1 c.requires.is_tree c.requires.none c.left-link.ensures)
+loop-link-init c = (
+  c.requires.of,
+  (refl, refl),
+  rows_same (knows c.args.pass.now),
+  descends_first (knows c.args.pass.now) c.args.asked.now c.args.anchor.now c.left-link.result c.budget-steps.result c.args.above.now.items
+      c.requires.prepared.0 c.requires.prepared.1 c.requires.is_tree c.requires.none c.left-link.ensures,
+)
 
 pub overflow_cast-row : goal.overflow_cast-row
 overflow_cast-row c =
@@ -44,15 +47,16 @@ overflow_cast-row c =
     let i = c.loop-link.invariant in
     let t = tree_in (knows c.loop-link.pass) c.args.table.now.plan c.args.anchor.now.row i.0.1 c.requires.tree in
     let f : c.loop-link.link - 1 < rows_of c.args.table.now.plan =
-        in_rows (knows c.loop-link.pass) c.args.table.now.plan (c.loop-link.link - 1) i.0.1 (further _ _ _ _ _ _ _ i.3 t c.loop-link-test.true).1 in
+    in_rows (knows c.loop-link.pass) c.args.table.now.plan (c.loop-link.link - 1) i.0.1 (further _ _ _ _ _ _ _ i.3 t c.loop-link-test.true).1 in
     omega arith
 
 pub seize-requires-clause-row : goal.seize-requires-clause-row
 seize-requires-clause-row c =
     let i = c.loop-link.invariant in
-    let t = tree_in (knows c.loop-link.pass) c.args.table.now.plan c.args.anchor.now.row i.0.1 c.requires.tree in
-    (in_rows (knows c.loop-link.pass) c.args.table.now.plan (c.loop-link.link - 1) i.0.1 (further _ _ _ _ _ _ _ i.3 t c.loop-link-test.true).1,
-    child_free _ _ _ _ _ _ _ i.3 t c.loop-link-test.true)
+    let t = tree_in (knows c.loop-link.pass) c.args.table.now.plan c.args.anchor.now.row i.0.1 c.requires.tree in (
+      in_rows (knows c.loop-link.pass) c.args.table.now.plan (c.loop-link.link - 1) i.0.1 (further _ _ _ _ _ _ _ i.3 t c.loop-link-test.true).1,
+      child_free _ _ _ _ _ _ _ i.3 t c.loop-link-test.true,
+    )
 
 pub put-requires-clause-settled : goal.put-requires-clause-settled
 put-requires-clause-settled c =
@@ -137,8 +141,8 @@ loop-link-preserved c =
     let z = c.seize.ensures.of in
     let t = took_child c.args.table.now.plan c.requires.tree i.0.1 i.3 c.loop-link-test.true c.in-Taken.ensures.seized l.same l.words.0 l.words.1 l.teaches in
     let only : OnlyRows (knows c.args.pass.now) (knows c.load_row-child.new.pass) =
-        rows_on (knows c.args.pass.now) (knows c.loop-link.pass) (knows c.load_row-child.new.pass) i.2
-        (rows_seized (c.loop-link.link - 1) (knows c.loop-link.pass) (knows c.load_row-child.new.pass) t.seizes) in
+    rows_on (knows c.args.pass.now) (knows c.loop-link.pass) (knows c.load_row-child.new.pass) i.2
+    (rows_seized (c.loop-link.link - 1) (knows c.loop-link.pass) (knows c.load_row-child.new.pass) t.seizes) in
     elim c.if-steps-gt0.branch [
       | then-steps-gt0 x ↦
           let u : View = knows x.put-then-steps-gt0.new.pass in

@@ -11,7 +11,9 @@ put-requires-clause-settled c =
 pub loop-row-preserved : goal.loop-row-preserved
 loop-row-preserved c =
     let i = c.loop-row.invariant in
-    let o = c.put.ensures.of in
-    (o.0, (o.1.0 ∙ i.1.0, o.1.1 ∙ i.1.1),
-    puts_one (knows c.args.pass.now) (knows c.loop-row.pass) c.args.rows.items c.loop-row.rows.items i.2
-    c.pop.new.self.items c.in-Some.row c.in-Some.ensures.items (knows c.put.new.pass) c.put.ensures.given)
+    let o = c.put.ensures.of in (
+      o.0,
+      (o.1.0 ∙ i.1.0, o.1.1 ∙ i.1.1),
+      puts_one (knows c.args.pass.now) (knows c.loop-row.pass) c.args.rows.items c.loop-row.rows.items i.2
+          c.pop.new.self.items c.in-Some.row c.in-Some.ensures.items (knows c.put.new.pass) c.put.ensures.given,
+    )

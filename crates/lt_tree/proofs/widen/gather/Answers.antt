@@ -26,9 +26,16 @@ loop-at-preserved-then-is_aside c =
       | then-index-eq0 w ↦ inl (sym (read_at c.loop-at.part.hangs.items c.loop-at.part.hangs.items c.loop-at.at c.index.result.now refl lt c.index.ensures) ∙ w.if-index-eq0.true)
       | else-index-eq0 w ↦ inr (ap (λ (xs : List PartRow). aside_at c.args.asked.now None xs c.loop-at.at) (sym w.deref.ensures.value) ∙ (sym w.is_aside.ensures.aside ∙ (sym w.value-is ∙ c.if-is_aside.true)))
     ] in
-    let n : suc c.loop-at.at ≡ c.loop-at.at + 1 = omega arith in
-    (i.0, i.1, i.2, i.3, subst (Passed c.args.asked.now None c.loop-at.part.rows.items c.loop-at.part.hangs.items) n
-    (passed_next c.args.asked.now None c.loop-at.part.rows.items c.loop-at.part.hangs.items c.loop-at.at h lt i.4 how), omega arith, i.6)
+    let n : suc c.loop-at.at ≡ c.loop-at.at + 1 = omega arith in (
+      i.0,
+      i.1,
+      i.2,
+      i.3,
+      subst (Passed c.args.asked.now None c.loop-at.part.rows.items c.loop-at.part.hangs.items) n
+          (passed_next c.args.asked.now None c.loop-at.part.rows.items c.loop-at.part.hangs.items c.loop-at.at h lt i.4 how),
+      omega arith,
+      i.6,
+    )
 
 pub loop-at-preserved : goal.loop-at-preserved
 loop-at-preserved c =
@@ -37,12 +44,15 @@ loop-at-preserved c =
     let lt : c.loop-at.at < length c.loop-at.part.hangs.items = search rules in
     let o = c.widen_at.ensures.of in
     let wide = c.in-Ok.ensures.wider in
-    let long = wide.1 in
-    (o.0, (o.1.0 ∙ i.1.0, o.1.1 ∙ i.1.1),
-    rows_on (knows c.args.pass.now) (knows c.loop-at.pass) (knows c.widen_at.new.pass) i.2 c.widen_at.ensures.only,
-    c.widen_at.ensures.locked,
-    passed_placed c.args.asked.now c.loop-at.part.rows.items c.widen_at.new.part.rows.items c.loop-at.part.hangs.items c.widen_at.new.part.hangs.items c.loop-at.at h lt c.in-Ok.ensures.placed i.4, omega arith,
-    keeps_on (knows c.args.pass.now) (knows c.loop-at.pass) (knows c.widen_at.new.pass) i.6 c.widen_at.ensures.kept)
+    let long = wide.1 in (
+      o.0,
+      (o.1.0 ∙ i.1.0, o.1.1 ∙ i.1.1),
+      rows_on (knows c.args.pass.now) (knows c.loop-at.pass) (knows c.widen_at.new.pass) i.2 c.widen_at.ensures.only,
+      c.widen_at.ensures.locked,
+      passed_placed c.args.asked.now c.loop-at.part.rows.items c.widen_at.new.part.rows.items c.loop-at.part.hangs.items c.widen_at.new.part.hangs.items c.loop-at.at h lt c.in-Ok.ensures.placed i.4,
+      omega arith,
+      keeps_on (knows c.args.pass.now) (knows c.loop-at.pass) (knows c.widen_at.new.pass) i.6 c.widen_at.ensures.kept,
+    )
 
 pub returns-clause-closed : goal.returns-clause-closed
 returns-clause-closed c =

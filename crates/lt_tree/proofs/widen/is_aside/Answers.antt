@@ -26,12 +26,14 @@ returns-then-at-gt0 c =
     let place = c.requires.place in
     let n : suc (c.args.at - 1) ≡ c.args.at = omega arith in
     let y = c.index-rows-at-then-at-gt0.result in
-    record { aside = c.is_at_most-then-at-gt0.ensures
-      ∙ (ap (λ k. key_le k c.right-then-at-gt0.result) c.right.ensures.value
-      ∙ (ap (key_le c.args.asked.now.right) c.right-then-at-gt0.ensures.value
-      ∙ (ap (λ (p : PartRow). key_le c.args.asked.now.right p.range.right) (sym c.index-rows-at-then-at-gt0.is)
-      ∙ (sym (aside_before c.args.asked.now None c.args.rows.now (c.args.at - 1) y (omega arith) c.index-rows-at-then-at-gt0.is (subst (NotBefore c.args.asked.now c.args.rows.now) (sym n) none))
-      ∙ ap (aside_at c.args.asked.now None c.args.rows.now) n)))) }
+    record {
+      aside = c.is_at_most-then-at-gt0.ensures
+          ∙ (ap (λ k. key_le k c.right-then-at-gt0.result) c.right.ensures.value
+          ∙ (ap (key_le c.args.asked.now.right) c.right-then-at-gt0.ensures.value
+          ∙ (ap (λ (p : PartRow). key_le c.args.asked.now.right p.range.right) (sym c.index-rows-at-then-at-gt0.is)
+          ∙ (sym (aside_before c.args.asked.now None c.args.rows.now (c.args.at - 1) y (omega arith) c.index-rows-at-then-at-gt0.is (subst (NotBefore c.args.asked.now c.args.rows.now) (sym n) none))
+          ∙ ap (aside_at c.args.asked.now None c.args.rows.now) n))));
+    }
 
 pub returns-else-at-gt0 : goal.returns-else-at-gt0
 returns-else-at-gt0 c =

@@ -76,15 +76,15 @@ returns-clause-locked c =
     let rows : c.put_in.new.part.rows.items ≡ take at c.args.part.now.rows.items
     ++ record { row = c.index.result.now - 1; owner = (node_of c.load_row-image.result.words).owner; range = (node_of c.load_row-image.result.words).range }
     ∷ drop at c.args.part.now.rows.items =
-        c.put_in.ensures.rows
-        ∙ (ap (λ (xs : List PartRow). take at xs ++ record { row = c.index.result.now - 1; owner = c.owner-owner.result; range = c.range-range.result } ∷ drop at xs) c.reserve.ensures.items
-        ∙ ap₂ (λ (o : ℕ) (r : Interval). take at c.args.part.now.rows.items ++ record { row = c.index.result.now - 1; owner = o; range = r } ∷ drop at c.args.part.now.rows.items)
-        c.owner-owner.ensures c.range-range.ensures) in
+    c.put_in.ensures.rows
+    ∙ (ap (λ (xs : List PartRow). take at xs ++ record { row = c.index.result.now - 1; owner = c.owner-owner.result; range = c.range-range.result } ∷ drop at xs) c.reserve.ensures.items
+    ∙ ap₂ (λ (o : ℕ) (r : Interval). take at c.args.part.now.rows.items ++ record { row = c.index.result.now - 1; owner = o; range = r } ∷ drop at c.args.part.now.rows.items)
+    c.owner-owner.ensures c.range-range.ensures) in
     let hangs : c.put_in.new.part.hangs.items ≡ take at c.args.part.now.hangs.items
     ++ (node_of c.load_row-image.result.words).left ∷ (node_of c.load_row-image.result.words).right ∷ drop (suc at) c.args.part.now.hangs.items =
-        c.put_in.ensures.hangs
-        ∙ (ap (λ (xs : List ℕ). take at xs ++ c.left-left.result ∷ c.right-right.result ∷ drop (suc at) xs) c.reserve-else-is_err.ensures.items
-        ∙ ap₂ (λ (x : ℕ) (y : ℕ). take at c.args.part.now.hangs.items ++ x ∷ y ∷ drop (suc at) c.args.part.now.hangs.items) c.left-left.ensures c.right-right.ensures) in
+    c.put_in.ensures.hangs
+    ∙ (ap (λ (xs : List ℕ). take at xs ++ c.left-left.result ∷ c.right-right.result ∷ drop (suc at) xs) c.reserve-else-is_err.ensures.items
+    ∙ ap₂ (λ (x : ℕ) (y : ℕ). take at c.args.part.now.hangs.items ++ x ∷ y ∷ drop (suc at) c.args.part.now.hangs.items) c.left-left.ensures c.right-right.ensures) in
     subst (λ (xs : List PartRow). IsLocked (knows c.load_row-image.new.pass) c.args.tree c.args.asked.now c.args.here xs c.put_in.new.part.hangs.items) (sym rows)
     (subst (λ (xs : List ℕ). IsLocked (knows c.load_row-image.new.pass) c.args.tree c.args.asked.now c.args.here
     (take at c.args.part.now.rows.items
@@ -100,9 +100,9 @@ returns-clause-wider c =
     let at = c.args.at in
     let hangs : c.put_in.new.part.hangs.items ≡ take at c.args.part.now.hangs.items
     ++ (node_of c.load_row-image.result.words).left ∷ (node_of c.load_row-image.result.words).right ∷ drop (suc at) c.args.part.now.hangs.items =
-        c.put_in.ensures.hangs
-        ∙ (ap (λ (xs : List ℕ). take at xs ++ c.left-left.result ∷ c.right-right.result ∷ drop (suc at) xs) c.reserve-else-is_err.ensures.items
-        ∙ ap₂ (λ (x : ℕ) (y : ℕ). take at c.args.part.now.hangs.items ++ x ∷ y ∷ drop (suc at) c.args.part.now.hangs.items) c.left-left.ensures c.right-right.ensures) in
+    c.put_in.ensures.hangs
+    ∙ (ap (λ (xs : List ℕ). take at xs ++ c.left-left.result ∷ c.right-right.result ∷ drop (suc at) xs) c.reserve-else-is_err.ensures.items
+    ∙ ap₂ (λ (x : ℕ) (y : ℕ). take at c.args.part.now.hangs.items ++ x ∷ y ∷ drop (suc at) c.args.part.now.hangs.items) c.left-left.ensures c.right-right.ensures) in
     (fewer t, ap (λ (xs : List ℕ). length xs) hangs ∙ longer t)
 
 pub returns-in-HeldBy-clause-kept : goal.returns-in-HeldBy-clause-kept
@@ -126,15 +126,15 @@ returns-clause-closed c closed =
     let rows : c.put_in.new.part.rows.items ≡ take at c.args.part.now.rows.items
     ++ record { row = c.index.result.now - 1; owner = (node_of c.load_row-image.result.words).owner; range = (node_of c.load_row-image.result.words).range }
     ∷ drop at c.args.part.now.rows.items =
-        c.put_in.ensures.rows
-        ∙ (ap (λ (xs : List PartRow). take at xs ++ record { row = c.index.result.now - 1; owner = c.owner-owner.result; range = c.range-range.result } ∷ drop at xs) c.reserve.ensures.items
-        ∙ ap₂ (λ (o : ℕ) (r : Interval). take at c.args.part.now.rows.items ++ record { row = c.index.result.now - 1; owner = o; range = r } ∷ drop at c.args.part.now.rows.items)
-        c.owner-owner.ensures c.range-range.ensures) in
+    c.put_in.ensures.rows
+    ∙ (ap (λ (xs : List PartRow). take at xs ++ record { row = c.index.result.now - 1; owner = c.owner-owner.result; range = c.range-range.result } ∷ drop at xs) c.reserve.ensures.items
+    ∙ ap₂ (λ (o : ℕ) (r : Interval). take at c.args.part.now.rows.items ++ record { row = c.index.result.now - 1; owner = o; range = r } ∷ drop at c.args.part.now.rows.items)
+    c.owner-owner.ensures c.range-range.ensures) in
     let hangs : c.put_in.new.part.hangs.items ≡ take at c.args.part.now.hangs.items
     ++ (node_of c.load_row-image.result.words).left ∷ (node_of c.load_row-image.result.words).right ∷ drop (suc at) c.args.part.now.hangs.items =
-        c.put_in.ensures.hangs
-        ∙ (ap (λ (xs : List ℕ). take at xs ++ c.left-left.result ∷ c.right-right.result ∷ drop (suc at) xs) c.reserve-else-is_err.ensures.items
-        ∙ ap₂ (λ (x : ℕ) (y : ℕ). take at c.args.part.now.hangs.items ++ x ∷ y ∷ drop (suc at) c.args.part.now.hangs.items) c.left-left.ensures c.right-right.ensures) in
+    c.put_in.ensures.hangs
+    ∙ (ap (λ (xs : List ℕ). take at xs ++ c.left-left.result ∷ c.right-right.result ∷ drop (suc at) xs) c.reserve-else-is_err.ensures.items
+    ∙ ap₂ (λ (x : ℕ) (y : ℕ). take at c.args.part.now.hangs.items ++ x ∷ y ∷ drop (suc at) c.args.part.now.hangs.items) c.left-left.ensures c.right-right.ensures) in
     subst (λ (xs : List PartRow). IsClosed c.args.asked.now xs c.put_in.new.part.hangs.items) (sym rows)
     (subst (λ (xs : List ℕ). IsClosed c.args.asked.now
     (take at c.args.part.now.rows.items
