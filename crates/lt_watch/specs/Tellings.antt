@@ -1,6 +1,9 @@
 -- What watches are told of joins.
 use Rattle.std.specs.Prelude.{ℕ, ◌+◌, List, [], ◌∷◌, ◌++◌, length, map, Bool, true, false, nat_lt, if◌then◌else◌}
+use Rattle.std.specs.Global.{Global}
+use Rattle.std.specs.declared.dyn_box.DynBox.{DynBox}
 use Rattle.lt_seq.specs.declared.event.JoinNote.{JoinNote}
+use Rattle.lt_watch.specs.declared.watchers.Watchers.{Watchers}
 use Rattle.lt_watch.specs.declared.told.Told.{Told}
 use Rattle.lt_watch.specs.declared.told.Told.TheVariants.{Join, Pair}
 
@@ -34,3 +37,7 @@ after_note note log = log_of log.capacity (if is_full note log then log.told els
 abbrev pub after_notes : List JoinNote → Log → Log
 after_notes [] log = log
 after_notes (note ∷ notes) log = after_notes notes (after_note note log)
+
+-- the boxes of a list of watches, in its order
+abbrev pub boxes_of : {X : Type 0} {D : X → Type 0} → Watchers X D → List (DynBox X Global D)
+boxes_of watchers = watchers.list.items

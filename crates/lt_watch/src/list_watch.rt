@@ -1,11 +1,12 @@
 //! A watch that keeps what it is told in a list.
 ghost use Rattle.std.specs.Prelude.{◌≡◌, ◌≤◌, ◌+◌, ◌++◌, [], length, IfOk, vec_len, vec_capacity};
-ghost use Rattle.lt_watch.specs.Tellings.{items_of};
+ghost use Rattle.lt_watch.specs.Tellings.{items_of, log_of};
 
 use crate::told::Told;
 use crate::watch::{Watch, WatchFull};
 use lt_seq::JoinNote;
 use std::alloc::{AllocError as OutOfMemory, Global};
+use std::marker::Model;
 
 /// Keeps what it is told in a list, up to a number of items.
 #[derive(Debug, Drop)]
@@ -16,11 +17,18 @@ pub struct ListWatch {
     ghost within: { vec_len items ≤ capacity },
 }
 
+impl Model for ListWatch {
+    ghost use Rattle.lt_watch.specs.Tellings.{Log, log_of};
+
+    ghost Value = { Log };
+
+    ghost view = { λ w. log_of w.capacity w.items.items };
+}
+
 impl ListWatch {
     /// A watch that may be told so many items, and was told none. It takes its memory at once, and none later.
     pub fn new(alloc: Global, capacity: usize) -> Result<ListWatch, OutOfMemory>
-        ensures capacity { IfOk result (λ w. w.capacity ≡ capacity) }
-        ensures told { IfOk result (λ w. w.items.items ≡ []) }
+        ensures { IfOk result (λ w. w ≡ log_of capacity []) }
     {
         let items = Vec::with_capacity(alloc, capacity)?;
         Ok(ListWatch { items, capacity })
@@ -28,14 +36,14 @@ impl ListWatch {
 
     /// The items that it was told, the first one first.
     pub fn told(&self) -> &[Told]
-        ensures { result.now ≡ self.now.items.items }
+        ensures { result.now ≡ self.now.told }
     {
         &self.items
     }
 }
 
 impl Watch for ListWatch {
-    ghost told = { λ w. w.items.items };
+    ghost told = { λ w. w.told };
 
     ghost capacity = { λ w. w.capacity };
 

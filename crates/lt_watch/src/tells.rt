@@ -1,7 +1,7 @@
 //! Who tells watches.
 ghost use Rattle.std.specs.Prelude.{◌≡◌, List, map};
 ghost use Rattle.std.specs.List.{count_by};
-ghost use Rattle.lt_watch.specs.Tellings.{Log, log_of, after_note, after_notes, is_full};
+ghost use Rattle.lt_watch.specs.Tellings.{Log, log_of, after_note, after_notes, is_full, boxes_of};
 
 use crate::watchers::Watchers;
 use lt_seq::JoinNote;
@@ -18,7 +18,7 @@ pub trait Tells {
 }
 
 impl Tells for Watchers {
-    ghost logs = { λ watchers. map (λ w. log_of ((Watch-box w).capacity w.value) ((Watch-box w).told w.value)) watchers.list.items };
+    ghost logs = { λ watchers. map (λ w. log_of ((Watch-box w).capacity w.value) ((Watch-box w).told w.value)) (boxes_of watchers) };
 
     fn tell(&mut self, note: &JoinNote) -> u64 {
         self.tell_all(note)

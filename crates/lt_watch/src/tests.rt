@@ -2,7 +2,6 @@
 use super::*;
 use lt_ranges::{Key, KeyRange};
 use lt_seq::{Held, HeldList, JoinNote};
-use std::alloc::{AllocError, Global};
 use std::test::Fail;
 
 fn held(owner: u64, left: &[u8], right: &[u8]) -> Result<Held, Fail> {
@@ -23,11 +22,6 @@ fn note(place: u64, pairs: Vec<Held>) -> JoinNote {
         after: pairs.len() as u64,
         pairs: HeldList::of(pairs),
     }
-}
-
-fn boxed(alloc: Global, capacity: usize) -> Result<Box<dyn Watch>, AllocError> {
-    let watch = Box::new(alloc, ListWatch::new(alloc, capacity)?)?;
-    Ok(watch)
 }
 
 #[test]
@@ -65,9 +59,17 @@ fn watches_are_added_and_taken_back(rt: HostRuntime) -> Result<(), Fail> {
     let alloc = rt.alloc();
     let mut watchers = Watchers::new(alloc);
     assert!(rt; watchers.is_empty());
-    assert!(rt; watchers.add(boxed(alloc, 1)?).is_ok());
+    assert!(rt;
+        watchers
+            .add(Box::new(alloc, ListWatch::new(alloc, 1)?)?)
+            .is_ok()
+    );
     watchers.tell_all(&note(2, Vec::new(alloc)));
-    assert!(rt; watchers.add(boxed(alloc, 2)?).is_ok());
+    assert!(rt;
+        watchers
+            .add(Box::new(alloc, ListWatch::new(alloc, 2)?)?)
+            .is_ok()
+    );
     assert_eq!(rt; watchers.len(), 2);
     let first = watchers.take_back(0).ok_or("the first watch")?;
     assert_eq!(rt; first.joins(), 1);
@@ -84,8 +86,16 @@ fn each_watch_is_told_and_the_full_ones_are_counted(rt: HostRuntime) -> Result<(
     let alloc = rt.alloc();
     let pair = held(1, b"a", b"b")?;
     let mut watchers = Watchers::new(alloc);
-    assert!(rt; watchers.add(boxed(alloc, 1)?).is_ok());
-    assert!(rt; watchers.add(boxed(alloc, 3)?).is_ok());
+    assert!(rt;
+        watchers
+            .add(Box::new(alloc, ListWatch::new(alloc, 1)?)?)
+            .is_ok()
+    );
+    assert!(rt;
+        watchers
+            .add(Box::new(alloc, ListWatch::new(alloc, 3)?)?)
+            .is_ok()
+    );
     assert_eq!(rt; watchers.tell_all(&note(2, vec![in alloc; pair]?)), 1);
     assert_eq!(rt; watchers.tell_all(&note(3, vec![in alloc; pair]?)), 2);
     assert_eq!(rt; watchers.tell_all(&note(4, Vec::new(alloc))), 0);
@@ -100,7 +110,11 @@ fn each_watch_is_told_and_the_full_ones_are_counted(rt: HostRuntime) -> Result<(
 fn notes_are_told_in_their_order(rt: HostRuntime) -> Result<(), Fail> {
     let alloc = rt.alloc();
     let mut watchers = Watchers::new(alloc);
-    assert!(rt; watchers.add(boxed(alloc, 9)?).is_ok());
+    assert!(rt;
+        watchers
+            .add(Box::new(alloc, ListWatch::new(alloc, 9)?)?)
+            .is_ok()
+    );
     let notes = vec![in alloc; note(2, Vec::new(alloc)), note(5, Vec::new(alloc))]?;
     tell_notes(&mut watchers, &notes);
     let watch = watchers.take_back(0).ok_or("the watch")?;
