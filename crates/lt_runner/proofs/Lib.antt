@@ -5,6 +5,7 @@ pub mod MoveLaws
 pub mod IdleLaws
 pub mod StepLaws
 pub mod PlaceLaws
+pub mod OwnLaws
 pub mod TraceLaws
 pub mod ClosingLaws
 pub mod PlayLaws

@@ -103,7 +103,7 @@ runs_leave_nothing trace first is_trace tree =
     let out = played_out trace first fit in
     none_held (due_at setting game tree) (tree_at (after setting game.events) tree).pairs
     (λ owner gives.
-        let goes = giver_goes setting txns game tree owner between.at_rest gives in
-        let inside = ap (is_in owner) out.numbers_are ∙ goes.0 in
-        never (is_some (turn_of setting owner game.turns).outcome) goes.1 (at_turn (λ t. is_some t.outcome ≡ true) setting owner game.turns inside (outcomes_over game.turns out.over)))
+    let goes = giver_goes setting txns game tree owner between.at_rest gives in
+    let inside = ap (is_in owner) out.numbers_are ∙ goes.0 in
+    never (is_some (turn_of setting owner game.turns).outcome) goes.1 (at_turn (λ t. is_some t.outcome ≡ true) setting owner game.turns inside (outcomes_over game.turns out.over)))
     (between.holds.is.due tree)

@@ -182,11 +182,19 @@ stage_after_all stage moves = fold stage_after stage moves
 abbrev pub end_of : ℕ → Line
 end_of txn = record { txn = txn; number = 0; deed = End }
 
+-- whether the last line of a transaction is among these
+abbrev pub has_last : List Line → Bool
+has_last lines = list_any (λ line. is_last line.deed) lines
+
 abbrev pub with_end : ℕ → List Line → List Line
-with_end txn lines = if list_any (λ line. is_last line.deed) lines then lines else lines ++ end_of txn ∷ []
+with_end txn lines = if has_last lines then lines else lines ++ end_of txn ∷ []
+
+-- the transaction's own of these lines
+abbrev pub own_of : ℕ → List Line → List Line
+own_of txn lines = filter (λ line. line.txn == txn) lines
 
 abbrev pub lines_for : ℕ → List Line → List Line
-lines_for txn lines = with_end txn (filter (λ line. line.txn == txn) lines)
+lines_for txn lines = with_end txn (own_of txn lines)
 
 abbrev pub opening_turn : Setting → ℕ → List Line → Turn
 opening_turn setting txn lines =

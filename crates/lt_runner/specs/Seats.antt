@@ -33,3 +33,7 @@ granted_at turn buffered = by_wish (next_wish turn.txn turn.lines)
     by_wish : Option Wish → Turn
     by_wish None = turn
     by_wish (Some wish) = granted_to wish.tree wish.range buffered turn
+
+-- several lines are put behind the others
+abbrev pub with_lines : List Line → Seat → Seat
+with_lines lines seat = record seat { turn = record seat.turn { lines = seat.turn.lines ++ lines } }

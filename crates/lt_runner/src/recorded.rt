@@ -71,11 +71,7 @@ fn add_ranges(
 {
     let mut first = true;
     for range in ranges.iter() {
-        releases.push_back(Release {
-            tree,
-            range,
-            first,
-        })?;
+        releases.push_back(Release { tree, range, first })?;
         first = false;
     }
     Ok(())

@@ -6,9 +6,9 @@ ghost use Rattle.lt_trace.specs.declared.line.Line.{Line as LineOf};
 ghost use Rattle.lt_runner.specs.declared.release.Release.{Release as ReleaseOf};
 ghost use Rattle.lt_runner.specs.TurnView.{Seat};
 ghost use Rattle.lt_runner.specs.Turn.{answered_by, granted_to, past, ending, rest_of_release};
-ghost use Rattle.lt_runner.specs.Plays.{next_wish};
+ghost use Rattle.lt_runner.specs.Plays.{next_wish, own_of, has_last, lines_for};
 ghost use Rattle.lt_runner.specs.Serial.{ended_in, is_ready};
-ghost use Rattle.lt_runner.specs.Seats.{opening_seat, idle, with_line, granted_at};
+ghost use Rattle.lt_runner.specs.Seats.{opening_seat, idle, with_line, with_lines, granted_at};
 
 use crate::recorded::{self, Recorded};
 use crate::release::Release;
@@ -89,6 +89,33 @@ impl Turn {
             busy: false,
             listed: false,
         })
+    }
+
+    /// A transaction with its lines of a trace's, for a table of so many trees. Where none of them is its last, an `end` line
+    /// stands behind them.
+    pub fn new(alloc: Global, txn: u64, lines: &[Line], trees: u32) -> Result<Turn, AllocError>
+        ensures { IfOk result (λ turn. turn ≡ opening_seat trees txn (lines_for txn lines.now)) }
+    {
+        let mut turn = Turn::without_lines(alloc, txn, trees)?;
+        if !turn.add_own(lines)? {
+            turn.add_line(0, LineDeed::End)?;
+        }
+        Ok(turn)
+    }
+
+    /// Puts its own of these lines behind the others, and tells whether one of them is its last.
+    fn add_own(&mut self, lines: &[Line]) -> Result<bool, AllocError>
+        ensures own { OnOk result (self.new ≡ with_lines (own_of self.old.turn.txn lines.now) self.old) }
+        ensures last { IfOk result (λ last. last ≡ has_last (own_of self.old.turn.txn lines.now)) }
+    {
+        let mut last = false;
+        for line in lines {
+            if line.txn == self.txn {
+                self.add_line(line.number, line.deed)?;
+                last |= line.deed.is_last();
+            }
+        }
+        Ok(last)
     }
 
     /// Its number.

@@ -304,7 +304,7 @@ fn made_traces_are_read_again(rt: HostRuntime) -> Result<(), Fail> {
         let made = make(rt.alloc(), seed, txns, lines)?;
         let text = write(rt.alloc(), &made)?;
         let trace = read(rt.alloc(), &text)?;
-        assert_eq!(rt; trace.lines().len(), (lines + txns) as usize);
+        assert_eq!(rt; trace.lines().len(), lines as usize + txns as usize);
         assert!(rt; trace.lines() == made.lines());
     }
     Ok(())
