@@ -57,6 +57,7 @@ pub mod SameOrder
 pub mod PartGaps
 -- each public law by its name
 pub mod PublicLaws
+pub mod PublicPartLaws
 -- worked
 pub mod WorkedTrees
 pub mod WorkedFirstFree

@@ -31,7 +31,8 @@ AreMade setting old new txn (r ∷ rs) = MakesOne setting old txn r (λ next. Ar
 
 -- A search among these wishes, behind an event that named the owners: its events are the pass's own, and are those of a
 -- search; what is found is the least closed walk by their edges and those of that event.
-pub record HasSearched (setting : Setting) (txn : ℕ) (wishes : List Wish) (place : ℕ) (owners : List ℕ) (old new : PassView) (found : Option (List Edge)) : Type 0 where
+pub record HasSearched (setting : Setting) (txn : ℕ) (wishes : List Wish) (place : ℕ) (owners : List ℕ)
+    (old new : PassView) (found : Option (List Edge)) : Type 0 where
   pub receipts : List Receipt
   pub made : AreMade setting old new txn receipts
   pub is_search : IsSearch txn wishes [] (wishes_of owners wishes) receipts
@@ -40,7 +41,8 @@ pub record HasSearched (setting : Setting) (txn : ℕ) (wishes : List Wish) (pla
 -- The question for the next of those left gave the fault, or memory was short behind the calls that were made.
 abbrev pub HasFailed : Setting → ℕ → List Wish → PassView → PassView → Fault → Type 0
 HasFailed setting txn left old new fault =
-    ((new ≡ old) × (fault ≡ OutOfMemory)) ⊎ ((wish : Wish) × (more : List Wish) × (left ≡ wish ∷ more) × Answers setting old new txn (question_for wish) (Err fault))
+    ((new ≡ old) × (fault ≡ OutOfMemory)) ⊎ ((wish : Wish) × (more : List Wish) × (left ≡ wish ∷ more)
+        × Answers setting old new txn (question_for wish) (Err fault))
 
 -- A search that a fault has cut short: its events so far are the pass's own, and are those of a search. They stand.
 pub record IsCutShort (setting : Setting) (txn : ℕ) (wishes : List Wish) (owners : List ℕ) (old new : PassView) (fault : Fault) : Type 0 where
@@ -59,7 +61,8 @@ SearchAnswers setting txn wishes place owners old new (Ok found) = HasSearched s
 SearchAnswers setting txn wishes place owners old new (Err fault) = IsCutShort setting txn wishes owners old new fault
 
 -- One question of a search, and what is listed and drawn by its answer.
-pub record IsAskedFor (setting : Setting) (txn : ℕ) (wish : Wish) (wishes : List Wish) (old new : PassView) (listed : List Wish) (edges : List Edge) (listed_now : List Wish) (edges_now : List Edge) : Type 0 where
+pub record IsAskedFor (setting : Setting) (txn : ℕ) (wish : Wish) (wishes : List Wish) (old new : PassView)
+    (listed : List Wish) (edges : List Edge) (listed_now : List Wish) (edges_now : List Edge) : Type 0 where
   pub receipt : Receipt
   pub happens : Happens setting old new txn (question_for wish) receipt
   pub listed_is : listed_now ≡ listed ++ new_wishes txn listed (wishes_of (named_in receipt.event.deed) wishes)
@@ -68,10 +71,12 @@ pub record IsAskedFor (setting : Setting) (txn : ℕ) (wish : Wish) (wishes : Li
 -- The question gave the fault, or memory was short behind it.
 abbrev pub HasNoAnswer : Setting → ℕ → Wish → PassView → PassView → Fault → Type 0
 HasNoAnswer setting txn wish old new fault =
-    ((receipt : Receipt) × Happens setting old new txn (question_for wish) receipt × (fault ≡ OutOfMemory)) ⊎ Answers setting old new txn (question_for wish) (Err fault)
+    ((receipt : Receipt) × Happens setting old new txn (question_for wish) receipt × (fault ≡ OutOfMemory))
+        ⊎ Answers setting old new txn (question_for wish) (Err fault)
 
 -- a search so far: so many of those listed were asked for
-pub record IsGoing (setting : Setting) (txn : ℕ) (wishes first : List Wish) (old now : PassView) (listed : List Wish) (next : ℕ) (begun edges : List Edge) : Type 0 where
+pub record IsGoing (setting : Setting) (txn : ℕ) (wishes first : List Wish) (old now : PassView)
+    (listed : List Wish) (next : ℕ) (begun edges : List Edge) : Type 0 where
   pub receipts : List Receipt
   pub made : AreMade setting old now txn receipts
   pub reaches : Reaches txn wishes [] first receipts (take next listed) (drop next listed)
@@ -102,7 +107,8 @@ pub record IsHeld (setting : Setting) (bar : ℕ) (wish : Wish) (old asked : Pas
   pub reply_is : reply_of ask.event.deed ≡ HeldBy owners
 
 -- it was held, and a search behind it among all wishes, its own among them, found a closed walk or none
-pub record IsSearched (setting : Setting) (bar : ℕ) (wish : Wish) (wishes : List Wish) (old new : PassView) (owners : List ℕ) (found : Option (List Edge)) : Type 0 where
+pub record IsSearched (setting : Setting) (bar : ℕ) (wish : Wish) (wishes : List Wish) (old new : PassView)
+    (owners : List ℕ) (found : Option (List Edge)) : Type 0 where
   pub ask : Receipt
   pub asked : PassView
   pub held : IsHeld setting bar wish old asked ask owners
@@ -119,21 +125,27 @@ pub record IsCutAsk (setting : Setting) (bar : ℕ) (wish : Wish) (wishes : List
 -- what is left of a registry behind a held ask and its search, whose event had this place and named the owners
 abbrev pub IsHeldAnswer : Setting → ℕ → ℕ → List ℕ → List Wish → PassView → PassView → List Wish → Result Started Fault → Type 0
 IsHeldAnswer setting txn place owners before old new after (Ok (StartedGranted p buffered)) = ⊥
-IsHeldAnswer setting txn place owners before old new after (Ok (Waits named)) = (named ≡ owners) × HasSearched setting txn before place owners old new None × (after ≡ before)
-IsHeldAnswer setting txn place owners before old new after (Ok (Deadlock walk)) = HasSearched setting txn before place owners old new (Some walk) × (after ≡ without txn before)
+IsHeldAnswer setting txn place owners before old new after (Ok (Waits named)) =
+    (named ≡ owners) × HasSearched setting txn before place owners old new None × (after ≡ before)
+IsHeldAnswer setting txn place owners before old new after (Ok (Deadlock walk)) =
+    HasSearched setting txn before place owners old new (Some walk) × (after ≡ without txn before)
 IsHeldAnswer setting txn place owners before old new after (Err fault) = IsCutShort setting txn before owners old new fault × (after ≡ before)
 
 -- why there was no answer: memory was short at once, the ask gave the fault, or its search was cut short
 abbrev pub HasFault : Setting → ℕ → Wish → List Wish → PassView → PassView → Fault → Type 0
 HasFault setting bar wish wishes old new fault =
-    ((new ≡ old) × (fault ≡ OutOfMemory)) ⊎ (AskAnswers setting bar old new wish.txn (deed_for wish) (Err fault) ⊎ IsCutAsk setting bar wish wishes old new fault)
+    ((new ≡ old) × (fault ≡ OutOfMemory)) ⊎ (AskAnswers setting bar old new wish.txn (deed_for wish) (Err fault)
+        ⊎ IsCutAsk setting bar wish wishes old new fault)
 
 -- The answer: granted, and it does not wait; held, with no closed walk through it, and it waits; held with one, and it does
 -- not wait; or a fault, and the registry is as before. `waiting` are all wishes with its own, and `others` those without it.
 abbrev pub IsStarted : Setting → ℕ → Wish → List Wish → List Wish → List Wish → PassView → PassView → List Wish → Result Started Fault → Type 0
-IsStarted setting bar wish others waiting before old new after (Ok (StartedGranted place buffered)) = IsGranted setting bar wish old new place buffered × (after ≡ others)
-IsStarted setting bar wish others waiting before old new after (Ok (Waits owners)) = IsSearched setting bar wish waiting old new owners None × (after ≡ waiting)
-IsStarted setting bar wish others waiting before old new after (Ok (Deadlock walk)) = ((owners : List ℕ) × IsSearched setting bar wish waiting old new owners (Some walk)) × (after ≡ others)
+IsStarted setting bar wish others waiting before old new after (Ok (StartedGranted place buffered)) =
+    IsGranted setting bar wish old new place buffered × (after ≡ others)
+IsStarted setting bar wish others waiting before old new after (Ok (Waits owners)) =
+    IsSearched setting bar wish waiting old new owners None × (after ≡ waiting)
+IsStarted setting bar wish others waiting before old new after (Ok (Deadlock walk)) =
+    ((owners : List ℕ) × IsSearched setting bar wish waiting old new owners (Some walk)) × (after ≡ others)
 IsStarted setting bar wish others waiting before old new after (Err fault) = HasFault setting bar wish waiting old new fault × (after ≡ before)
 
 -- What a start or a retry keeps, whatever it answers: the pass keeps its rights, and where it was sound it has seen no less and is sound.

@@ -90,7 +90,8 @@ pub record IsAtLine (stage : Stage) : Type 0 where
 
 -- Moves have brought the transaction from its opening here, and these are their receipts. The history may have any events of
 -- others besides. It is listed rightly in each search of another, and its own are among them.
-pub record HasCome (crew : Bool) (setting : Setting) (searches : List Search) (history : List Event) (opening : Stage) (seat : Seat) (receipts : List Receipt) : Type 0 where
+pub record HasCome (crew : Bool) (setting : Setting) (searches : List Search) (history : List Event)
+    (opening : Stage) (seat : Seat) (receipts : List Receipt) : Type 0 where
   pub moves : List Move
   pub played : ArePlayed crew setting history opening moves
   pub inside : AllByRecursion (IsInside setting history) moves
@@ -101,12 +102,15 @@ pub record HasCome (crew : Bool) (setting : Setting) (searches : List Search) (h
   pub made : flat_map receipts_in moves ≡ receipts
 
 -- one move between two histories, whatever past the turn has
-pub record MovesBy (crew : Bool) (setting : Setting) (old_history new_history : List Event) (old new : Seat) (made : List Receipt) (move : Move) : Type 0 where
-  pub may : (past : Past) → IsPastAt crew setting old_history old past → IsMove crew setting new_history (record { turn = old.turn; past = past }) old.turn.lines move
+pub record MovesBy (crew : Bool) (setting : Setting) (old_history new_history : List Event) (old new : Seat)
+    (made : List Receipt) (move : Move) : Type 0 where
+  pub may : (past : Past) → IsPastAt crew setting old_history old past
+      → IsMove crew setting new_history (record { turn = old.turn; past = past }) old.turn.lines move
   pub turn : new.turn ≡ turn_after old.turn move
   pub inside : IsInside setting new_history move
   pub late : IsLate (place_after setting old_history) move
-  pub past : (past : Past) → IsPastAt crew setting old_history old past → IsPastAt crew setting new_history new (stage_after (record { turn = old.turn; past = past }) move).past
+  pub past : (past : Past) → IsPastAt crew setting old_history old past
+      → IsPastAt crew setting new_history new (stage_after (record { turn = old.turn; past = past }) move).past
   pub made_by : made ≡ receipts_in move
 
 -- The searches of others were all before the place, and these are among all.
@@ -125,7 +129,8 @@ abbrev pub IsOver : Seat → Type 0
 IsOver seat = (is_some seat.turn.outcome ≡ true) × (seat.turn.releases ≡ [])
 
 -- all transactions of a trace, half played, in one legal history
-pub record AllStand (crew : Bool) (setting : Setting) (searches : List Search) (lines : List Line) (history : List Event) (seats : List Seat) : Type 0 where
+pub record AllStand (crew : Bool) (setting : Setting) (searches : List Search) (lines : List Line)
+    (history : List Event) (seats : List Seat) : Type 0 where
   pub legal : IsLegal setting history
   pub numbers : map (λ seat. seat.turn.txn) seats ≡ txns_of lines
   pub stand : AllByRecursion (Stands crew setting searches lines history) seats

@@ -205,7 +205,8 @@ opening_stage setting txn lines =
     record { turn = opening_turn setting txn lines; past = record { since = setting.plan.first; held = 0; left = false } }
 
 -- The moves play the transaction's lines to their end and release it. They are all its events of the history, and this is its outcome.
-pub record Plays (crew : Bool) (setting : Setting) (lines : List Line) (history : List Event) (txn : ℕ) (ended : Outcome) (moves : List Move) : Type 0 where
+pub record Plays (crew : Bool) (setting : Setting) (lines : List Line) (history : List Event) (txn : ℕ)
+    (ended : Outcome) (moves : List Move) : Type 0 where
   pub played : ArePlayed crew setting history (opening_stage setting txn (lines_for txn lines)) moves
   pub outcome : (stage_after_all (opening_stage setting txn (lines_for txn lines)) moves).turn.outcome ≡ Some ended
   pub released : (stage_after_all (opening_stage setting txn (lines_for txn lines)) moves).turn.releases ≡ []

@@ -25,7 +25,8 @@ use Rattle.lt_runner.specs.Played.{Search, Fits, IsAtLine, HasCome}
 -- What brings a transaction on, with these searches of its own. Whatever searches there were, it is listed rightly in them still.
 abbrev pub Brings : Setting → List Search → List Event → List Event → Seat → Seat → List Receipt → Type 0
 Brings setting found old new was is made =
-    (opening : Stage) (receipts : List Receipt) (searches : List Search) → IsAtLine opening → Fits searches found (place_after setting old) opening.turn.txn
+    (opening : Stage) (receipts : List Receipt) (searches : List Search) → IsAtLine opening
+        → Fits searches found (place_after setting old) opening.turn.txn
     → HasCome true setting searches old opening was receipts → HasCome true setting searches new opening is (receipts ++ made)
 
 -- A pass plays a transaction: the receipts that it adds are the transaction's, and bring it on.

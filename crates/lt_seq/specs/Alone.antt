@@ -72,7 +72,8 @@ AloneAskCaused setting bar joins events (HistoryFull place) = IsFull setting eve
 AloneAskCaused setting bar joins events (OutOfLocks place used_rows) = IsOutOfLocks setting bar joins events place used_rows
 
 -- the event of an ask behind its joins, for which there was a row below the bar
-pub record IsAskedAtOnce (setting : Setting) (bar : ℕ) (joins : List Receipt) (old new : PassView) (txn : ℕ) (deed : Deed) (receipt : Receipt) : Type 0 where
+pub record IsAskedAtOnce (setting : Setting) (bar : ℕ) (joins : List Receipt) (old new : PassView) (txn : ℕ)
+    (deed : Deed) (receipt : Receipt) : Type 0 where
   pub whole : AreNoneOrAll setting joins
   pub made : IsMade setting old new txn deed receipt
   pub below : used (after setting old.front) < bar

@@ -205,7 +205,8 @@ AreNoneOrAll setting [] = Unit {0}
 AreNoneOrAll setting (r ∷ rs) = length (r ∷ rs) ≡ setting.plan.trees
 
 -- its event behind these joins: its look showed a row below the bar
-pub record IsAsked (setting : Setting) (bar : ℕ) (joins : List Receipt) (old new : PassView) (txn : ℕ) (deed : Deed) (receipt : Receipt) : Type 0 where
+pub record IsAsked (setting : Setting) (bar : ℕ) (joins : List Receipt) (old new : PassView) (txn : ℕ)
+    (deed : Deed) (receipt : Receipt) : Type 0 where
   pub whole : AreNoneOrAll setting joins
   pub happens : Happens setting old new txn deed receipt
   pub below : used (after setting happens.seen) < bar

@@ -29,3 +29,5 @@ pub use yard::{Closed, Note, Pass, Yard};
 
 #[cfg(test)]
 mod tests;
+#[cfg(test)]
+mod tests_of_buffers;

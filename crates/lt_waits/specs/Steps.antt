@@ -32,7 +32,8 @@ Grows old new = (txn : ℕ) (step : Step) → old txn ≡ Some step → (now : S
 
 -- a step that is new has so many edges
 abbrev pub AddsOnly : ℕ → (ℕ → Option Step) → (ℕ → Option Step) → Type 0
-AddsOnly count old new = (txn : ℕ) (step : Step) → new txn ≡ Some step → ((was : Step) × (old txn ≡ Some was) × (step.left ≡ was.left)) ⊎ (step.left ≡ count)
+AddsOnly count old new = (txn : ℕ) (step : Step) → new txn ≡ Some step
+    → ((was : Step) × (old txn ≡ Some was) × (step.left ≡ was.left)) ⊎ (step.left ≡ count)
 
 -- All steps of fewer edges than these are found, and some of as many; those that have as many are listed.
 pub record IsSearch (edges : List Wait) (txn count : ℕ) (steps : ℕ → Option Step) (found : List ℕ) : Type 0 where
