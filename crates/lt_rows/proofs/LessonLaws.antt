@@ -1,16 +1,22 @@
 -- What a pass reads off its own rows.
-use Rattle.std.proofs.Common.{subst}
+use Rattle.std.proofs.Common.{◌++◌, refl, subst}
 use Rattle.lt_ranges.specs.Interval.{IsInterval}
 use Rattle.lt_seq.specs.SeqPass.{plain}
 use Rattle.lt_seq.proofs.LawfulLaws.{sound_history}
 use Rattle.lt_forest.proofs.PairLists.{lawful_has}
 use Rattle.lt_rows.specs.Nodes.{node_of}
-use Rattle.lt_rows.specs.LawsOfLessons.{HistoryIsLegal, AnchorShowsMode, NoLinkShowsNoPairs, AnchorIsLinked, GappedRowIsLinked, PartRowIsLinked, LinksNameFurtherRows, NoRowIsNamedTwice, NoneLeadsBackToItself, PoolNamesNoGappedRow, LicensedFindsVacant, GappedRowShowsRange, PartShowsPairsOfTree, ClosedPartShowsAll, WholePartShowsTree, WholeChainShowsBuffer}
+use Rattle.lt_rows.specs.LawsOfLessons.{HistoryIsLegal, CommitIsLegal, AnchorShowsMode, NoLinkShowsNoPairs, AnchorIsLinked, GappedRowIsLinked, PartRowIsLinked, LinksNameFurtherRows, NoRowIsNamedTwice, NoneLeadsBackToItself, PoolNamesNoGappedRow, LicensedFindsVacant, GappedRowShowsRange, PartShowsPairsOfTree, ClosedPartShowsAll, WholePartShowsTree, WholeChainShowsBuffer}
 use Rattle.lt_rows.proofs.Lessons.{legal, mode_shown, none_there, of_anchor, of_gap, of_part, names_further, names_apart, none_back, pool_apart, vacant, part_shows, part_has_all, whole_shows, chain_shows}
 use Rattle.lt_rows.proofs.RuleLaws.{placed_pair}
+use Rattle.lt_rows.proofs.WoodCommits.{may_commit}
+use Rattle.lt_rows.specs.Words.{added}
 
 pub history_is_legal : HistoryIsLegal
 history_is_legal v log st = legal v log st
+
+pub commit_is_legal : CommitIsLegal
+commit_is_legal v rest e plan change st mark commit =
+    (may_commit v.plan v e plan change (added change) commit refl st.forest st.contents (v.front ++ rest) rest mark refl st.shape st.agrees st.gaps).shape.legal
 
 pub anchor_shows_mode : AnchorShowsMode
 anchor_shows_mode v log t st lt held = mode_shown v log st t lt held

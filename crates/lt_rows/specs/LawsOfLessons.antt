@@ -1,5 +1,5 @@
 -- What a pass reads off its own rows of the state after a history, by what a step taught it.
-use Rattle.std.specs.Prelude.{◌≡◌, ◌≢◌, ◌⊎◌, ℕ, ◌+◌, ◌<◌, ◌≤◌, List, [], ◌∷◌, length, true, Some}
+use Rattle.std.specs.Prelude.{◌≡◌, ◌≢◌, ◌⊎◌, ℕ, ℤ, ◌+◌, ◌<◌, ◌≤◌, List, [], ◌∷◌, ◌++◌, length, true, Some}
 use Rattle.lt_ranges.specs.Interval.{Interval, IsInterval, overlap, whole}
 use Rattle.lt_seq.specs.declared.event.Event.{Event}
 use Rattle.lt_seq.specs.declared.event.Pair.{Pair}
@@ -17,15 +17,22 @@ use Rattle.lt_forest.specs.Views.{IsIn, AllHeld, HoldsPart}
 use Rattle.lt_rows.specs.declared.view.SeenGap.{SeenGap}
 use Rattle.lt_rows.specs.declared.view.Row.{Row}
 use Rattle.lt_rows.specs.declared.view.View.{View}
+use Rattle.lt_rows.specs.declared.image.RowImage.{RowImage}
 use Rattle.lt_rows.specs.Nodes.{node_of, mode_of}
 use Rattle.lt_rows.specs.Views.{Holds, has, images, rows_of}
 use Rattle.lt_rows.specs.Rule.{Stood}
 use Rattle.lt_rows.specs.Woods.{woods}
-use Rattle.lt_rows.specs.Lawful.{shown, KnowsTop}
+use Rattle.lt_rows.specs.Lawful.{shown, KnowsTop, IsCommit}
 
 -- the history is legal
 abbrev pub HistoryIsLegal : Type 0
 HistoryIsLegal = (v : View) (log : List Event) → Stood (woods v.plan) v log → IsLegal (plain v.plan) log
+
+-- An event that a pass may commit is the next of a legal history.
+abbrev pub CommitIsLegal : Type 0
+CommitIsLegal =
+    (v : View) (rest : List Event) (e : Event) (plan : List RowImage) (change : ℤ) → Stood (woods v.plan) v (v.front ++ rest)
+    → v.mark ≤ v.plan.passes → IsCommit v.plan v e plan change → IsLegal (plain v.plan) ((v.front ++ rest) ++ e ∷ [])
 
 -- A held anchor shows its tree's mode, and with no link in Tree mode that the tree has no pairs.
 abbrev pub AnchorShowsMode : Type 0

@@ -1,7 +1,7 @@
 //! Laws of the rows. Each function's contract is a law over the definitions; the bodies are empty.
 ghost use Rattle.lt_rows.specs.LawsOfRule.{OneHolds, AllRightsAreAlone, GappedRowIsOfItsTree, ClosedPartHasAllRows};
 ghost use Rattle.lt_rows.specs.LawsOfRule.{LimitIsKept, NoneIsGivenAgain, TakenIsHeld};
-ghost use Rattle.lt_rows.specs.LawsOfLessons.{HistoryIsLegal, AnchorShowsMode, NoLinkShowsNoPairs, AnchorIsLinked};
+ghost use Rattle.lt_rows.specs.LawsOfLessons.{HistoryIsLegal, CommitIsLegal, AnchorShowsMode, NoLinkShowsNoPairs, AnchorIsLinked};
 ghost use Rattle.lt_rows.specs.LawsOfLessons.{GappedRowIsLinked, PartRowIsLinked, LinksNameFurtherRows, NoRowIsNamedTwice};
 ghost use Rattle.lt_rows.specs.LawsOfLessons.{NoneLeadsBackToItself, PoolNamesNoGappedRow, LicensedFindsVacant, GappedRowShowsRange};
 ghost use Rattle.lt_rows.specs.LawsOfLessons.{PartShowsPairsOfTree, ClosedPartShowsAll, WholePartShowsTree, WholeChainShowsBuffer};
@@ -26,6 +26,11 @@ pub fn closed_parts()
 pub fn rows_given_and_taken()
     ensures given { NoneIsGivenAgain }
     ensures taken { TakenIsHeld }
+{}
+
+/// What is committed goes on in the way of the sequential table: wherever it stands, the history with the event is legal.
+pub fn commits_are_legal()
+    ensures { CommitIsLegal }
 {}
 
 /// At every moment there are vacant rows for all passes that are licensed to take one, and such a pass that holds the pool's
