@@ -1,6 +1,5 @@
 -- Random tables whose replies are known: questions of three transactions, some of which end a buffer.
 use Rattle.std.specs.Prelude.{◌≡◌, ℕ, List, [], ◌∷◌, ◌++◌, codes, fold, length, map, true, false}
-use Rattle.lt_ranges.specs.declared.key.Key.{Key}
 use Rattle.lt_ranges.specs.declared.key.Key.TheVariants.{Below, Bytes, After, Above}
 use Rattle.lt_ranges.specs.Short.{between, from_to, at}
 use Rattle.lt_ranges.specs.Interval.{Interval}

@@ -1,4 +1,5 @@
 //! Laws of texts.
+ghost use Rattle.lt_history.specs.Merging.{MergedIsHistory};
 ghost use Rattle.lt_history.specs.RandomTables.{RandomTables};
 ghost use Rattle.lt_history.specs.SummaryRows.{SummaryRows};
 
@@ -11,4 +12,9 @@ pub fn random_tables()
 /// Worked summaries come out so.
 pub fn summary_rows()
     ensures { SummaryRows }
+{}
+
+/// The receipts of all passes of a legal history, by ascending place, are the receipts of that history.
+pub fn merged_is_the_history()
+    ensures { MergedIsHistory }
 {}

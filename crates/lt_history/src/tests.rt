@@ -1,5 +1,5 @@
 //! The text of events and outcomes, of every kind, and their numbers.
-use crate::{Ended, Outcome, print, summary};
+use crate::{Ended, Outcome, merge, print, summary};
 use lt_ranges::{Key, KeyRange};
 use lt_requests::{Cycle, Edge};
 use lt_seq::{Deed, Event, Owners, Receipt, Reply};
@@ -111,5 +111,30 @@ fn a_buffered_ask_and_its_free_are_summed(rt: HostRuntime) -> Result<(), Fail> {
     outcomes.push(ended(1, Outcome::Done))?;
     let text = summary(alloc, &receipts, &outcomes)?;
     assert_eq!(rt; text.as_slice(), b"sum 2 0 1 0 0 1 0 1 0 0 0\n".as_slice());
+    Ok(())
+}
+
+#[test]
+fn lists_of_two_passes_become_one_by_place(rt: HostRuntime) -> Result<(), Fail> {
+    let alloc = rt.alloc();
+    let join = |place| {
+        receipt(
+            place,
+            1,
+            Deed::Join {
+                tree: 0,
+                before: 0,
+                after: 0,
+            },
+        )
+    };
+    let first = Vec::from_array(alloc, [join(1), join(4)])?;
+    let second = Vec::from_array(alloc, [join(0), join(2), join(3)])?;
+    let merged = merge(alloc, Vec::from_array(alloc, [first, second])?)?;
+    let mut places = Vec::new(alloc);
+    for receipt in &merged {
+        places.push(receipt.place)?;
+    }
+    assert_eq!(rt; places.as_slice(), [0, 1, 2, 3, 4].as_slice());
     Ok(())
 }
