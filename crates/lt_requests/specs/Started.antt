@@ -42,7 +42,7 @@ pub record HasSearched (setting : Setting) (txn : ℕ) (wishes : List Wish) (pla
 abbrev pub HasFailed : Setting → ℕ → List Wish → PassView → PassView → Fault → Type 0
 HasFailed setting txn left old new fault =
     ((new ≡ old) × (fault ≡ OutOfMemory)) ⊎ ((wish : Wish) × (more : List Wish) × (left ≡ wish ∷ more)
-        × Answers setting old new txn (question_for wish) (Err fault))
+    × Answers setting old new txn (question_for wish) (Err fault))
 
 -- A search that a fault has cut short: its events so far are the pass's own, and are those of a search. They stand.
 pub record IsCutShort (setting : Setting) (txn : ℕ) (wishes : List Wish) (owners : List ℕ) (old new : PassView) (fault : Fault) : Type 0 where
@@ -72,7 +72,7 @@ pub record IsAskedFor (setting : Setting) (txn : ℕ) (wish : Wish) (wishes : Li
 abbrev pub HasNoAnswer : Setting → ℕ → Wish → PassView → PassView → Fault → Type 0
 HasNoAnswer setting txn wish old new fault =
     ((receipt : Receipt) × Happens setting old new txn (question_for wish) receipt × (fault ≡ OutOfMemory))
-        ⊎ Answers setting old new txn (question_for wish) (Err fault)
+    ⊎ Answers setting old new txn (question_for wish) (Err fault)
 
 -- a search so far: so many of those listed were asked for
 pub record IsGoing (setting : Setting) (txn : ℕ) (wishes first : List Wish) (old now : PassView)
@@ -135,7 +135,7 @@ IsHeldAnswer setting txn place owners before old new after (Err fault) = IsCutSh
 abbrev pub HasFault : Setting → ℕ → Wish → List Wish → PassView → PassView → Fault → Type 0
 HasFault setting bar wish wishes old new fault =
     ((new ≡ old) × (fault ≡ OutOfMemory)) ⊎ (AskAnswers setting bar old new wish.txn (deed_for wish) (Err fault)
-        ⊎ IsCutAsk setting bar wish wishes old new fault)
+    ⊎ IsCutAsk setting bar wish wishes old new fault)
 
 -- The answer: granted, and it does not wait; held, with no closed walk through it, and it waits; held with one, and it does
 -- not wait; or a fault, and the registry is as before. `waiting` are all wishes with its own, and `others` those without it.

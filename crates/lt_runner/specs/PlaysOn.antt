@@ -26,7 +26,7 @@ use Rattle.lt_runner.specs.Played.{Search, Fits, IsAtLine, HasCome}
 abbrev pub Brings : Setting → List Search → List Event → List Event → Seat → Seat → List Receipt → Type 0
 Brings setting found old new was is made =
     (opening : Stage) (receipts : List Receipt) (searches : List Search) → IsAtLine opening
-        → Fits searches found (place_after setting old) opening.turn.txn
+    → Fits searches found (place_after setting old) opening.turn.txn
     → HasCome true setting searches old opening was receipts → HasCome true setting searches new opening is (receipts ++ made)
 
 -- A pass plays a transaction: the receipts that it adds are the transaction's, and bring it on.
