@@ -13,7 +13,7 @@ use Rattle.lt_forest.proofs.RowsAndHangs.{ends-hanging}
 use Rattle.lt_forest.proofs.VisitLaws.{aside_app}
 use Rattle.lt_rows.specs.declared.view.View.{View}
 use Rattle.lt_rows.specs.Lawful.{shown}
-use Rattle.lt_tree.specs.Gathers.{Place, below_top, on_left, on_right, around, Beside, IsLocked, IsClosed}
+use Rattle.lt_tree.specs.Gathers.{Place, below_top, on_left, on_right, around, Beside, IsLockedWith, IsClosed}
 
 aside_both : (range : Interval) (es fs : List End) → AllAside range (es ++ fs) → AllAside range es × AllAside range fs
 aside_both range [] fs a = (tt, a)
@@ -40,9 +40,10 @@ end_behind : (range : Interval) (l : ℕ) (y : Bound) (k : _) → key_le range.r
 end_behind range zero y k e = tt
 end_behind range (suc l) y k e = (inr e, tt)
 
-pub locked_closed : (v : View) (tree : ℕ) (asked : Interval) (here : ℕ) (rows : List PartRow) (hangs : List ℕ) → (l : IsLocked v tree asked here rows hangs) → IsClosed asked rows hangs
+pub locked_closed : (v : View) (tree : ℕ) (asked : Interval) (here : ℕ) (rows : List PartRow) (hangs more : List ℕ)
+    → (l : IsLockedWith v tree asked here rows hangs more) → IsClosed asked rows hangs
     → IsClosedFor asked l.top (shown v []) (around l.place here (shown v [] here) l.sub)
-locked_closed v tree asked here rows hangs l closed = record { in_gap = l.in_gap; aside = go l.place l.beside }
+locked_closed v tree asked here rows hangs more l closed = record { in_gap = l.in_gap; aside = go l.place l.beside }
   where
     flat : AllAside asked (ends (shown v []) l.sub None None)
     flat =

@@ -1,5 +1,5 @@
 -- What a search holds, as rows that it may give back: each once.
-use Rattle.std.proofs.Common.{◌≡◌, ℕ, ◌<◌, ◌≤◌, List, [], ◌∷◌, map, refl, sym, ap, ◌∙◌, subst, arith, ne_eqb, Bool, true, false}
+use Rattle.std.proofs.Common.{◌≡◌, ℕ, ◌+◌, ◌<◌, ◌≤◌, List, [], ◌∷◌, ◌++◌, map, refl, sym, ap, ◌∙◌, subst, arith, ne_eqb, Bool, true, false}
 use Rattle.std.specs.Prelude.{nat_eq}
 use mathlib.Core.Logic.{dite}
 use native.Mathlib.Decide.{ℕ_discrete}
@@ -15,16 +15,18 @@ use Rattle.lt_forest.specs.Cuts.{Cut, bare}
 use Rattle.lt_forest.specs.Forest.{Forest}
 use Rattle.lt_forest.specs.Parts.{part_row, numbers}
 use Rattle.lt_forest.specs.Plans.{Top, IsPart}
+use Rattle.lt_forest.specs.Views.{IsIn}
 use Rattle.lt_forest.proofs.SameRows.{times-++}
 use Rattle.lt_forest.proofs.ForestLaws.{one_place}
 use Rattle.lt_forest.proofs.FurtherRows.{in_tree_further}
 use Rattle.lt_forest.proofs.PartLaws.{rows_are}
 use Rattle.lt_forest.proofs.PlansInView.{true_part}
 use Rattle.lt_rows.specs.declared.view.View.{View}
+use Rattle.lt_rows.specs.Views.{has}
 use Rattle.lt_rows.specs.Lawful.{shown}
 use Rattle.lt_rows.proofs.Planned.{view_is, held_row}
 use Rattle.lt_rows.proofs.WoodCommits.{seen_top, mode_top}
-use Rattle.lt_tree.specs.Gathers.{Place, below_top, on_left, on_right, around, TopIs, IsLocked}
+use Rattle.lt_tree.specs.Gathers.{Place, below_top, on_left, on_right, around, TopIs, IsLockedWith}
 use Rattle.lt_tree.specs.Puttings.{Backs}
 use Rattle.lt_tree.proofs.WideningLaws.{holds_part}
 
@@ -44,7 +46,7 @@ numbers_are c [] = refl
 numbers_are c (x ∷ xs) = ap (λ (l : List ℕ). x ∷ l) (numbers_are c xs)
 
 module _ (v : View) (tree : ℕ) (asked : Interval) (here : ℕ) (rows : List PartRow) (hangs : List ℕ)
-    (l : IsLocked v tree asked here rows hangs) (lt : tree < v.plan.trees) where
+    {more : List ℕ} (l : IsLockedWith v tree asked here rows hangs more) (lt : tree < v.plan.trees) where
   whole_once : (r : ℕ) → IsOnce v.plan.trees (around l.place here (shown v [] here) l.sub) r
   whole_once r =
       let st = l.teaches.2 in
@@ -72,12 +74,26 @@ module _ (v : View) (tree : ℕ) (asked : Interval) (here : ℕ) (rows : List Pa
   rows_in : numbers rows ≡ in_order (bare l.sub)
   rows_in = ap numbers (sym l.rows_are) ∙ numbers_are (shown v []) (in_order (bare l.sub))
 
-  pub locked_backs : Backs v (here ∷ numbers rows)
-  locked_backs = subst (λ (xs : List ℕ). Backs v (here ∷ xs)) (sym rows_in) (record {
+  abbrev both : ℕ → ℕ
+  both q = times q (more ++ here ∷ in_order (bare l.sub))
+
+  -- the further rows first
+  pub locked_backs : Backs v (more ++ here ∷ numbers rows)
+  locked_backs = subst (λ (xs : List ℕ). Backs v (more ++ here ∷ xs)) (sym rows_in) (record {
     keeps = record {
-      held = λ q more. held_row v q (l.held_rows q more);
-      once = λ q. held_once l.place l.top_is q (whole_once q);
+      held = λ q some. held_row v q (both_held q (times-++ q more (here ∷ in_order (bare l.sub))) some);
+      once = λ q. both_once q (times-++ q more (here ∷ in_order (bare l.sub)));
       gathers = l.gathers;
     };
-    held_all = l.held_all;
+    held_all = λ q h. let t = times-++ q more (here ∷ in_order (bare l.sub)) in let a = l.held_all q h in omega arith;
   })
+    where
+      both_held : (q : ℕ) → both q ≡ times q more + times q (here ∷ in_order (bare l.sub)) → 0 < both q → IsIn (has v) q
+      both_held q t some = dite (ℕ_discrete (times q more) 0)
+          (λ z. l.held_rows q (omega arith))
+          (λ ne. l.held_more.held q (omega arith))
+
+      both_once : (q : ℕ) → both q ≡ times q more + times q (here ∷ in_order (bare l.sub)) → both q ≤ 1
+      both_once q t = dite (ℕ_discrete (times q more) 0)
+          (λ z. let o = held_once l.place l.top_is q (whole_once q) in omega arith)
+          (λ ne. let a = l.held_more.apart q (omega arith) in let o = l.held_more.once q in omega arith)

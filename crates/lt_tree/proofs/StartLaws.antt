@@ -23,6 +23,7 @@ use Rattle.lt_rows.proofs.Planned.{row_held, held_row}
 use Rattle.lt_rows.specs.Views.{rows_of as all_rows}
 use Rattle.lt_rows.proofs.NodeRanges.{node_interval}
 use Rattle.lt_ranges.proofs.KeyLaws.{le_trans, le_total}
+use Rattle.lt_tree.proofs.WideningLaws.{none_more}
 use Rattle.lt_tree.proofs.TakingLaws.{hang_small}
 use Rattle.lt_tree.proofs.StepLaws.{has_on, spot_on}
 use Rattle.lt_tree.specs.States.{KeepsRows}
@@ -87,7 +88,8 @@ module _ (v : View) (tree : ℕ) (asked : Interval) (here : RowImage) (child : O
     beside = beside;
     shows = shows child st.child_is (link_at p (shown v [] here.row)) link;
     held_rows = held_rows child st.child_is;
-    held_all = λ q h. held_all child q (st.held_all q h);
+    held_more = none_more v (here.row ∷ in_order (bare (first_cut child)));
+    held_all = λ q h. (let a = held_all child q (st.held_all q h) in omega arith);
     rows_are = rows_are child st.child_is;
     hangs_are = hangs_are child;
     teaches = st.teaches;

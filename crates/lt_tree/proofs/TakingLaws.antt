@@ -27,7 +27,7 @@ use Rattle.lt_tree.specs.Gathers.{IsLocked, IsClosed}
 use Rattle.lt_tree.proofs.ViewLaws.{seized_else, met_rows, met_gathers, seized_has, has_loaded}
 use Rattle.lt_tree.proofs.DownLaws.{free_take}
 use Rattle.lt_forest.proofs.PartLaws.{map_long}
-use Rattle.lt_tree.proofs.WideningLaws.{names, hang_free, widened, not_there, IsWider}
+use Rattle.lt_tree.proofs.WideningLaws.{none_more, names, hang_free, widened, not_there, IsWider}
 use Rattle.lt_tree.proofs.ClosedLaws.{still_closed}
 
 pub split_at : (xs : List ℕ) (i x : ℕ) → i < length xs → x ≡ get_or xs i 0 → xs ≡ take i xs ++ x ∷ drop (suc i) xs
@@ -64,6 +64,7 @@ locked_met v w tree asked here rows hangs m l =
       beside = l.beside;
       shows = l.shows;
       held_rows = l.held_rows;
+      held_more = none_more (record v { met = w.met; met_row = w.met_row; met_mark = w.met_mark }) (here ∷ in_order (bare l.sub));
       held_all = l.held_all;
       rows_are = l.rows_are;
       hangs_are = l.hangs_are;

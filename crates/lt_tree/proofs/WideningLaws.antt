@@ -30,7 +30,7 @@ use Rattle.lt_rows.specs.Teaching.{Teaches}
 use Rattle.lt_rows.proofs.Planned.{held_row, view_is}
 use Rattle.lt_rows.proofs.WoodCommits.{seen_top, mode_top}
 use Rattle.lt_tree.specs.States.{Seizes, HasWords}
-use Rattle.lt_tree.specs.Gathers.{Place, below_top, on_left, on_right, link_at, around, TopIs, Beside, IsLocked}
+use Rattle.lt_tree.specs.Gathers.{Place, below_top, on_left, on_right, link_at, around, TopIs, Beside, HoldsMore, IsLocked, IsLockedWith}
 use Rattle.lt_tree.proofs.ViewLaws.{seized_else, seized_gathers}
 
 on_rows : (c d : Nodes) (xs : List ℕ) → ((q : ℕ) → 0 < times q xs → c q ≡ d q) → map (part_row c) xs ≡ map (part_row d) xs
@@ -77,7 +77,8 @@ around_rows below_top h n sub q = omega arith
 around_rows on_left h n sub q = let s = times-++ q (in_order (bare sub)) (h ∷ []) in omega arith
 around_rows on_right h n sub q = omega arith
 
-module _ (v : View) (tree : ℕ) (asked : Interval) (here : ℕ) (rows : List PartRow) (hangs : List ℕ) (l : IsLocked v tree asked here rows hangs) (lt : tree < v.plan.trees) where
+module _ (v : View) (tree : ℕ) (asked : Interval) (here : ℕ) (rows : List PartRow) (hangs : List ℕ)
+    {more : List ℕ} (l : IsLockedWith v tree asked here rows hangs more) (lt : tree < v.plan.trees) where
   abbrev mine : Nodes
   mine = shown v []
 
@@ -115,11 +116,22 @@ module _ (v : View) (tree : ℕ) (asked : Interval) (here : ℕ) (rows : List Pa
       subst (λ (x : ℕ). 0 < times x (hangs_of whole)) one
       (seen_around l.place here (shown v [] here) l.sub (suc r) (subst (λ (xs : List ℕ). 0 < times (suc r) xs) (sym l.hangs_are) some)))
 
+-- no further row
+pub none_more : (v : View) (rows : List ℕ) → HoldsMore v rows []
+none_more v rows = record {
+  held = λ q some. absurd (omega arith);
+  once = λ q. omega arith;
+  apart = λ q some. absurd (omega arith);
+}
+
+module _ (v : View) (tree : ℕ) (asked : Interval) (here : ℕ) (rows : List PartRow) (hangs : List ℕ) (l : IsLocked v tree asked here rows hangs)
+    (lt : tree < v.plan.trees) where
   -- so it isn't held
   pub not_there : (r : ℕ) → 0 < times (suc r) hangs → (q : ℕ) → IsHeld v q → q ≢ r
   not_there r some q h e =
-      let n = names r some in
-      let there : 0 < times r (here ∷ in_order (bare l.sub)) = subst (λ (m : ℕ). 0 < times m (here ∷ in_order (bare l.sub))) e (l.held_all q h) in
+      let n = names v tree asked here rows hangs l lt r some in
+      let a = l.held_all q h in
+      let there : 0 < times r (here ∷ in_order (bare l.sub)) = subst (λ (m : ℕ). 0 < times m (here ∷ in_order (bare l.sub))) e (omega arith) in
       absurd (go l.place l.top_is n there)
     where
       go : (p : Place) → TopIs p tree here l.top → HangNames v.plan.trees (all_rows v.plan) r (around p here (shown v [] here) l.sub) → 0 < times r (here ∷ in_order (bare l.sub)) → ⊥
@@ -199,12 +211,13 @@ module _ (v : View) (tree : ℕ) (asked : Interval) (here : ℕ) (rows : List Pa
           top = l.top;
           score = l.score;
           sub = wide.wider;
-          knows = knows_on l.top l.knows holds_part.top_held;
+          knows = knows_on l.top l.knows (holds_part v tree asked here rows hangs l lt).top_held;
           top_is = l.top_is;
           in_gap = l.in_gap;
           beside = subst (λ (n : Node). Beside l.place asked n.range) (sym (same_node here here_in)) l.beside;
           shows = wide.shows;
           held_rows = λ q more. held_new q (wider_times q) more;
+          held_more = none_more w (here ∷ in_order (bare wide.wider));
           held_all = λ q h. all_new q (wider_times q) h;
           rows_are =
               ap (map (part_row (shown w []))) wide.new_rows
@@ -224,7 +237,7 @@ module _ (v : View) (tree : ℕ) (asked : Interval) (here : ℕ) (rows : List Pa
             (λ e. subst (IsIn (has w)) (sym e) has_r.0)
             (λ ne. w_held q (l.held_rows q (let z : one_if (nat_eq r q) ≡ 0 = ap one_if (ne_eqb r q (λ x'. ne (sym x'))) in omega arith)))
 
-        all_new : (q : ℕ) → times q (in_order (bare wide.wider)) ≡ times q (in_order (bare l.sub)) + (one_if (nat_eq r q) + 0) → IsHeld w q → 0 < times q (here ∷ in_order (bare wide.wider))
+        all_new : (q : ℕ) → times q (in_order (bare wide.wider)) ≡ times q (in_order (bare l.sub)) + (one_if (nat_eq r q) + 0) → IsHeld w q → 0 < times q (here ∷ in_order (bare wide.wider)) + times q []
         all_new q t h = dite (ℕ_discrete q r)
             (λ e. let o : one_if (nat_eq r q) ≡ 1 = ap one_if (eq-eqb r q (sym e)) in omega arith)
             (λ ne. let a = l.held_all q (h.0, sym (seized_else r v w s q ne) ∙ h.1) in omega arith)

@@ -1,5 +1,5 @@
 -- The part that a search gathers below the row that stays held.
-use Rattle.std.specs.Prelude.{false, suc, zero, Bool, ◌||◌, Option, Some, ◌≡◌, ◌⊎◌, ℕ, ◌<◌, List, [], ◌∷◌, ◌++◌, true, None, take, drop}
+use Rattle.std.specs.Prelude.{false, suc, zero, Bool, ◌||◌, Option, Some, ◌≡◌, ◌⊎◌, ℕ, ◌+◌, ◌<◌, ◌≤◌, List, [], ◌∷◌, ◌++◌, true, None, take, drop}
 use Rattle.lt_ranges.specs.Key.{key_le}
 use Rattle.lt_ranges.specs.Interval.{Interval, before}
 use Rattle.lt_forest.specs.declared.part.PartRow.{PartRow}
@@ -46,9 +46,15 @@ Beside below_top asked range = Unit {0}
 Beside on_left asked range = (before asked range ≡ true) × (key_le asked.right range.right ≡ true)
 Beside on_right asked range = (before range asked ≡ true) × (key_le range.left asked.left ≡ true)
 
--- A search that holds the row and below it the part of these rows and hangs, and no other row. What the part shows hangs from the
--- row on the side of the asked range.
-pub record IsLocked (v : View) (tree : ℕ) (asked : Interval) (here : ℕ) (rows : List PartRow) (hangs : List ℕ) : Type 0 where
+-- further rows that are held, each named once, and none of these
+pub record HoldsMore (v : View) (rows more : List ℕ) : Type 0 where
+  pub held : AllHeld (IsIn (has v)) more
+  pub once : (q : ℕ) → times q more ≤ 1
+  pub apart : (q : ℕ) → 0 < times q more → times q rows ≡ 0
+
+-- A search that holds the row, below it the part of these rows and hangs, and besides these further rows, and no other row. What
+-- the part shows hangs from the row on the side of the asked range.
+pub record IsLockedWith (v : View) (tree : ℕ) (asked : Interval) (here : ℕ) (rows : List PartRow) (hangs more : List ℕ) : Type 0 where
   pub place : Place
   pub top : Top
   pub score : ℕ
@@ -59,11 +65,16 @@ pub record IsLocked (v : View) (tree : ℕ) (asked : Interval) (here : ℕ) (row
   pub beside : Beside place asked (shown v [] here).range
   pub shows : Shows (shown v []) (link_at place (shown v [] here)) sub
   pub held_rows : AllHeld (IsIn (has v)) (here ∷ in_order (bare sub))
-  pub held_all : (q : ℕ) → IsHeld v q → 0 < times q (here ∷ in_order (bare sub))
+  pub held_more : HoldsMore v (here ∷ in_order (bare sub)) more
+  pub held_all : (q : ℕ) → IsHeld v q → 0 < times q (here ∷ in_order (bare sub)) + times q more
   pub rows_are : rows_of (shown v []) sub ≡ rows
   pub hangs_are : hangs_of sub ≡ hangs
   pub teaches : Teaches v
   pub gathers : IsGathering v
+
+-- and no further row
+abbrev pub IsLocked : View → ℕ → Interval → ℕ → List PartRow → List ℕ → Type 0
+IsLocked v tree asked here rows hangs = IsLockedWith v tree asked here rows hangs []
 
 -- a row stands where a link hung, with its two links
 pub record PlacedAt (at : ℕ) (rows rows' : List PartRow) (hangs hangs' : List ℕ) : Type 0 where
