@@ -12,3 +12,4 @@ pub mod ReleaseLaws
 pub mod PartLaws
 pub mod ClosedLaws
 pub mod AnchorLaws
+pub mod WritingLaws

@@ -12,7 +12,11 @@ use Rattle.lt_rows.specs.declared.view.View.{View}
 use Rattle.lt_rows.specs.declared.view.Row.{Row}
 use Rattle.lt_rows.specs.Views.{Holds, IsHeld, row_at, with_row}
 use Rattle.lt_rows.specs.Teaching.{Teaches}
+use Rattle.lt_rows.proofs.Frames.{Some-none}
 use Rattle.lt_rows.proofs.StepLaws.{put_row_is_gone}
+use Rattle.lt_tree.specs.declared.pool.PoolRows.{PoolRows}
+use Rattle.lt_tree.specs.declared.pool.PoolRows.TheVariants.{Anchor, Vacant}
+use Rattle.lt_tree.specs.Pools.{pool_rows}
 use Rattle.lt_tree.specs.States.{HoldsNone}
 use Rattle.lt_tree.specs.Puttings.{Keeps, Backs, PutsSome, Puts}
 use Rattle.lt_tree.proofs.ViewLaws.{held_on, held_put, put_gathers}
@@ -108,3 +112,37 @@ pub one_row_less : (held : ℕ) (rows less : List PartRow) (row : PartRow) → r
     → held ∷ numbers rows ≡ (held ∷ numbers less) ++ row.row ∷ []
 one_row_less held rows less row e =
     ap (λ (xs : List ℕ). held ∷ xs) (ap (λ (xs : List PartRow). numbers xs) e ∙ numbers_app less (row ∷ []))
+
+-- of rows that are given back in turn, the first ones and those behind them
+
+pub keeps_front : (v : View) (xs ys : List ℕ) → Keeps v (xs ++ ys) → Keeps v xs
+keeps_front v xs ys k = record {
+  held = λ q more. k.held q (let t = times-++ q xs ys in omega arith);
+  once = λ q. (let t = times-++ q xs ys in let o = k.once q in omega arith);
+  gathers = k.gathers;
+}
+
+pub backs_rest : (v w : View) (xs ys : List ℕ) → Backs v (xs ++ ys) → Puts v w xs → Backs w ys
+backs_rest v w xs ys b p = record {
+  keeps = record {
+    held = λ q more. still q (times-++ q xs ys) more;
+    once = λ q. (let t = times-++ q xs ys in let o = b.keeps.once q in omega arith);
+    gathers = p.gathers;
+  };
+  held_all = λ q h. dite (ℕ_discrete (times q xs) 0)
+      (λ z. (let t = times-++ q xs ys in let a = b.held_all q (h.0, sym (p.others q z) ∙ h.1) in omega arith))
+      (λ ne. absurd (Some-none h.0 (sym (p.gone q (omega arith)) ∙ h.1)));
+}
+  where
+    still : (q : ℕ) → times q (xs ++ ys) ≡ times q xs + times q ys → 0 < times q ys → IsHeld w q
+    still q t more =
+        let o = b.keeps.once q in
+        let h = b.keeps.held q (omega arith) in
+        (h.0, p.others q (omega arith) ∙ h.1)
+
+-- the pool's rows
+pub pool_anchor : (trees t : ℕ) (pool : PoolRows) → t ≡ trees → pool ≡ Anchor → pool_rows trees pool ≡ [] ++ t ∷ []
+pool_anchor trees t pool e is = ap (pool_rows trees) is ∙ ap (λ (n : ℕ). n ∷ []) (sym e)
+
+pub pool_vacant : (trees t row : ℕ) (pool : PoolRows) → t ≡ trees → pool ≡ Vacant row → pool_rows trees pool ≡ (row ∷ []) ++ t ∷ []
+pool_vacant trees t row pool e is = ap (pool_rows trees) is ∙ ap (λ (n : ℕ). row ∷ n ∷ []) (sym e)

@@ -67,7 +67,7 @@ put_only v w r only row held e q = dite (ℕ_discrete q r)
 
 -- only rows differ
 
-held_set : (v w : View) (hs : List (Option Row)) → w ≡ record v { held = hs } → OnlyHeld v w
+pub held_set : (v w : View) (hs : List (Option Row)) → w ≡ record v { held = hs } → OnlyHeld v w
 held_set v w hs e = subst (OnlyHeld v) (sym e) refl
 
 pub held_put : (v w : View) (r : ℕ) → w ≡ with_row v r None → OnlyHeld v w

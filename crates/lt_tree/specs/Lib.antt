@@ -4,3 +4,5 @@ pub mod Descents
 pub mod Gathers
 pub mod LawsOfParts
 pub mod Anchors
+pub mod Pools
+pub mod Writings

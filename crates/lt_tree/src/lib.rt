@@ -3,9 +3,11 @@
 #![tactic(auto)]
 
 mod descent;
+mod finish;
 pub mod laws;
 mod locked;
 mod part;
+mod pool;
 mod prepare;
 mod put;
 mod seize;
@@ -13,4 +15,5 @@ mod widen;
 
 pub use descent::{Stop, descend};
 pub use locked::Locked;
+pub use pool::PoolRows;
 pub use prepare::{Anchor, Prepared, try_prepare};

@@ -8,12 +8,15 @@ ghost use Rattle.lt_rows.specs.Views.{IsHeld, row_at, words_of};
 ghost use Rattle.lt_rows.specs.Handles.{knows, IsPassOf, IsSamePass};
 ghost use Rattle.lt_tree.specs.States.{HoldsNone, OnlyHeld, OnlyRows, KeepsRows, IsRefused};
 ghost use Rattle.lt_tree.specs.Descents.{Stays, IsLast};
-ghost use Rattle.lt_tree.specs.Gathers.{IsLocked, IsClosed, PlacedAt};
+ghost use Rattle.lt_tree.specs.Gathers.{IsLocked, IsLockedWith, IsClosed, PlacedAt};
+ghost use Rattle.lt_tree.specs.Pools.{pool_rows};
+ghost use Rattle.lt_tree.specs.declared.pool.PoolRows.TheVariants.{Nothing};
 
 use crate::descent::{Stop, descend};
 use crate::part::{begin, empty_part};
+use crate::pool::PoolRows;
 use crate::prepare::Prepared;
-use crate::put::put_part;
+use crate::put::{put_held, put_part};
 use crate::widen::{gather, widen_at};
 use lt_forest::Part;
 use lt_ranges::KeyRange;
@@ -31,6 +34,7 @@ pub struct Locked<'a> {
     pub(crate) asked: KeyRange,
     pub(crate) held: u32,
     pub(crate) part: Part,
+    pub(crate) pool: PoolRows,
     ghost of: { IsPassOf table.now pass × (0 < pass.rights) × (tree < table.now.plan.trees) },
 }
 
@@ -80,7 +84,8 @@ impl<'a> Prepared<'a> {
     pub fn acquire(self, alloc: Global, asked: &KeyRange) -> Result<Locked<'a>, (RowPass, Fault)>
         requires tree_mode { IsTree (mode_of self.image.words) }
         ensures same { IfOk result (λ l. IsSamePass self.entry.pass l.pass × OnlyRows (knows self.entry.pass) (knows l.pass)) }
-        ensures kept { IfOk result (λ l. (l.table.now ≡ self.entry.table.now) × (l.tree ≡ self.entry.tree) × (l.asked ≡ asked.now)) }
+        ensures kept { IfOk result (λ l. (l.table.now ≡ self.entry.table.now) × (l.tree ≡ self.entry.tree) × (l.asked ≡ asked.now)
+            × (l.pool ≡ Nothing)) }
         ensures locked { IfOk result (λ l. IsLocked (knows l.pass) l.tree l.asked l.held l.part.rows.items l.part.hangs.items) }
         ensures last { IfOk result (λ l. IsLast (knows l.pass) l.tree l.asked l.held) }
         ensures closed { IfOk result (λ l. IsClosed l.asked l.part.rows.items l.part.hangs.items) }
@@ -114,6 +119,7 @@ impl<'a> Prepared<'a> {
                 asked: *asked,
                 held: stop.here.row,
                 part,
+                pool: PoolRows::Nothing,
             }),
             Err(fault) => Err((pass, fault)),
         }
@@ -140,7 +146,7 @@ impl<'a> Locked<'a> {
         requires held { IsHeld (knows self.old.pass) row }
         ensures same { IsSamePass self.old.pass self.new.pass × (knows self.new.pass ≡ knows self.old.pass) }
         ensures kept { (self.new.table ≡ self.old.table) × (self.new.tree ≡ self.old.tree) × (self.new.asked ≡ self.old.asked)
-            × (self.new.held ≡ self.old.held) × (self.new.part ≡ self.old.part) }
+            × (self.new.held ≡ self.old.held) × (self.new.part ≡ self.old.part) × (self.new.pool ≡ self.old.pool) }
         ensures words { (result.row ≡ row) × (result.words ≡ words_of (row_at (knows self.old.pass) row)) }
     {
         self.table.load_row(&mut self.pass, row)
@@ -157,7 +163,7 @@ impl<'a> Locked<'a> {
             self.old.part.hangs.items }
         ensures same { IsSamePass self.old.pass self.new.pass × OnlyRows (knows self.old.pass) (knows self.new.pass) }
         ensures kept { (self.new.table ≡ self.old.table) × (self.new.tree ≡ self.old.tree) × (self.new.asked ≡ self.old.asked)
-            × (self.new.held ≡ self.old.held) }
+            × (self.new.held ≡ self.old.held) × (self.new.pool ≡ self.old.pool) }
         ensures locked { IsLocked (knows self.new.pass) self.new.tree self.new.asked self.new.held self.new.part.rows.items
             self.new.part.hangs.items }
         ensures closed { IsClosed self.old.asked self.old.part.rows.items self.old.part.hangs.items
@@ -184,7 +190,8 @@ impl<'a> Locked<'a> {
 
     /// The pass, which holds no row. Nothing is changed.
     pub fn release(self) -> RowPass
-        requires locked { IsLocked (knows self.pass) self.tree self.asked self.held self.part.rows.items self.part.hangs.items }
+        requires locked { IsLockedWith (knows self.pass) self.tree self.asked self.held self.part.rows.items self.part.hangs.items
+            (pool_rows (knows self.pass).plan.trees self.pool) }
         ensures of { IsPassOf self.entry.table.now result × IsSamePass self.entry.pass result }
         ensures only { OnlyHeld (knows self.entry.pass) (knows result) }
         ensures none { HoldsNone (knows result) }
@@ -197,9 +204,10 @@ impl<'a> Locked<'a> {
             asked: _,
             held,
             part,
+            pool,
         } = self;
         let mut pass = pass;
-        put_part(table, &mut pass, held, part.rows);
+        put_held(table, &mut pass, pool, held, part.rows);
         pass
     }
 }
