@@ -13,3 +13,4 @@ pub mod PartLaws
 pub mod ClosedLaws
 pub mod AnchorLaws
 pub mod WritingLaws
+pub mod PoolLaws

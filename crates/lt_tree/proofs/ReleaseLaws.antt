@@ -47,7 +47,7 @@ numbers_are c (x ∷ xs) = ap (λ (l : List ℕ). x ∷ l) (numbers_are c xs)
 
 module _ (v : View) (tree : ℕ) (asked : Interval) (here : ℕ) (rows : List PartRow) (hangs : List ℕ)
     {more : List ℕ} (l : IsLockedWith v tree asked here rows hangs more) (lt : tree < v.plan.trees) where
-  whole_once : (r : ℕ) → IsOnce v.plan.trees (around l.place here (shown v [] here) l.sub) r
+  pub whole_once : (r : ℕ) → IsOnce v.plan.trees (around l.place here (shown v [] here) l.sub) r
   whole_once r =
       let st = l.teaches.2 in
       let log = l.teaches.0 in

@@ -23,11 +23,11 @@ use Rattle.lt_rows.specs.Teaching.{Teaches}
 use Rattle.lt_rows.specs.Handles.{IsGathering}
 use Rattle.lt_tree.specs.States.{OnlyMet, Seizes, KeepsRows, HasWords}
 use Rattle.lt_tree.specs.Descents.{free_rows}
-use Rattle.lt_tree.specs.Gathers.{IsLocked, IsClosed}
+use Rattle.lt_tree.specs.Gathers.{IsLocked, IsLockedWith, IsClosed}
 use Rattle.lt_tree.proofs.ViewLaws.{seized_else, met_rows, met_gathers, seized_has, has_loaded}
 use Rattle.lt_tree.proofs.DownLaws.{free_take}
 use Rattle.lt_forest.proofs.PartLaws.{map_long}
-use Rattle.lt_tree.proofs.WideningLaws.{none_more, names, hang_free, widened, not_there, IsWider}
+use Rattle.lt_tree.proofs.WideningLaws.{names, hang_free, widened, not_there, IsWider}
 use Rattle.lt_tree.proofs.ClosedLaws.{still_closed}
 
 pub split_at : (xs : List ℕ) (i x : ℕ) → i < length xs → x ≡ get_or xs i 0 → xs ≡ take i xs ++ x ∷ drop (suc i) xs
@@ -51,9 +51,10 @@ hang_small v tree asked here rows hangs l lt zero some = omega arith
 hang_small v tree asked here rows hangs l lt (suc r) some = let n = names v tree asked here rows hangs l lt r some in let i = n.1 in omega arith
 
 -- only what the view met is another
-pub locked_met : (v w : View) (tree : ℕ) (asked : Interval) (here : ℕ) (rows : List PartRow) (hangs : List ℕ) → OnlyMet v w → IsLocked v tree asked here rows hangs → IsLocked w tree asked here rows hangs
-locked_met v w tree asked here rows hangs m l =
-    subst (λ (u : View). IsLocked u tree asked here rows hangs) (sym m.0) (record {
+pub locked_met : (v w : View) (tree : ℕ) (asked : Interval) (here : ℕ) (rows : List PartRow) (hangs : List ℕ)
+    {more : List ℕ} → OnlyMet v w → IsLockedWith v tree asked here rows hangs more → IsLockedWith w tree asked here rows hangs more
+locked_met v w tree asked here rows hangs {more} m l =
+    subst (λ (u : View). IsLockedWith u tree asked here rows hangs more) (sym m.0) (record {
       place = l.place;
       top = l.top;
       score = l.score;
@@ -64,7 +65,7 @@ locked_met v w tree asked here rows hangs m l =
       beside = l.beside;
       shows = l.shows;
       held_rows = l.held_rows;
-      held_more = none_more (record v { met = w.met; met_row = w.met_row; met_mark = w.met_mark }) (here ∷ in_order (bare l.sub));
+      held_more = record { held = l.held_more.held; once = l.held_more.once; apart = l.held_more.apart };
       held_all = l.held_all;
       rows_are = l.rows_are;
       hangs_are = l.hangs_are;

@@ -33,7 +33,7 @@ use Rattle.lt_tree.specs.States.{Seizes, HasWords}
 use Rattle.lt_tree.specs.Gathers.{Place, below_top, on_left, on_right, link_at, around, TopIs, Beside, HoldsMore, IsLocked, IsLockedWith}
 use Rattle.lt_tree.proofs.ViewLaws.{seized_else, seized_gathers}
 
-on_rows : (c d : Nodes) (xs : List ℕ) → ((q : ℕ) → 0 < times q xs → c q ≡ d q) → map (part_row c) xs ≡ map (part_row d) xs
+pub on_rows : (c d : Nodes) (xs : List ℕ) → ((q : ℕ) → 0 < times q xs → c q ≡ d q) → map (part_row c) xs ≡ map (part_row d) xs
 on_rows c d [] same = refl
 on_rows c d (x ∷ xs) same =
     let o : one_if (nat_eq x x) ≡ 1 = ap one_if (eq-eqb x x refl) in

@@ -1,5 +1,5 @@
 -- What the states of a search say of the pass's view.
-use Rattle.std.specs.Prelude.{◌≡◌, ℕ, ◌+◌, ◌<◌, ◌≤◌, List, None}
+use Rattle.std.specs.Prelude.{◌≡◌, ◌≢◌, ℕ, ◌+◌, ◌<◌, ◌≤◌, List, None}
 use Rattle.lt_seq.specs.declared.fault.Fault.{Fault}
 use Rattle.lt_seq.specs.declared.fault.Fault.TheVariants.{Busy, OutOfMemory, HistoryFull, OutOfLocks}
 use Rattle.lt_forest.specs.Views.{IsIn}
@@ -33,6 +33,14 @@ OnlyRows v w = (w ≡ record v { held = w.held; met = w.met; met_row = w.met_row
 -- the rows that it held it still holds as they were
 abbrev pub KeepsRows : View → View → Type 0
 KeepsRows v w = (q : ℕ) → IsHeld v q → row_at w q ≡ row_at v q
+
+-- at most this row is held otherwise than before
+abbrev pub HoldsElse : ℕ → View → View → Type 0
+HoldsElse r v w = (q : ℕ) → q ≢ r → row_at w q ≡ row_at v q
+
+-- the same rows are held, each as it was
+abbrev pub HoldsSame : View → View → Type 0
+HoldsSame v w = (q : ℕ) → row_at w q ≡ row_at v q
 
 -- several tries to take a row; all fail only where others were met, which never comes to a pass with all the rights
 abbrev pub Seizes : ℕ → View → View → Take → Type 0
