@@ -17,7 +17,7 @@ use Rattle.lt_tree.specs.States.{IsPrepared}
 use Rattle.lt_tree.specs.Anchors.{ShowsMode}
 
 -- the anchor's link is small
-small_by : (v : View) (tree : ℕ) (image : RowImage) → IsPrepared v tree image → tree < v.plan.trees → Teaches v → (node_of image.words).left ≤ rows_of v.plan
+pub small_by : (v : View) (tree : ℕ) (image : RowImage) → IsPrepared v tree image → tree < v.plan.trees → Teaches v → (node_of image.words).left ≤ rows_of v.plan
 small_by v tree image p lt t =
     let is : link_in (shown v []) (left_of tree) ≡ (node_of image.words).left = ap (λ (ws : List ℕ). (node_of ws).left) p.0.2 in
     elim (names_further v t.0 t.2 (left_of tree) p.0.0 (of_anchor v t.0 t.2 tree (omega arith))) [

@@ -14,9 +14,9 @@ use Rattle.lt_forest.specs.Trees.{Nodes, in_order}
 use Rattle.lt_forest.specs.Cuts.{Cut, bare}
 use Rattle.lt_forest.specs.Forest.{Forest}
 use Rattle.lt_forest.specs.Parts.{part_row, numbers}
-use Rattle.lt_forest.specs.Plans.{Top, IsPart}
+use Rattle.lt_forest.specs.Plans.{Top, from_anchor, IsPart}
 use Rattle.lt_forest.specs.Views.{IsIn}
-use Rattle.lt_forest.proofs.SameRows.{times-++}
+use Rattle.lt_forest.proofs.SameRows.{times-++, one_here}
 use Rattle.lt_forest.proofs.ForestLaws.{one_place}
 use Rattle.lt_forest.proofs.FurtherRows.{in_tree_further}
 use Rattle.lt_forest.proofs.PartLaws.{rows_are}
@@ -70,6 +70,17 @@ module _ (v : View) (tree : ℕ) (asked : Interval) (here : ℕ) (rows : List Pa
       at_most_one false = omega arith
   held_once on_left is r once = let s = times-++ r (in_order (bare l.sub)) (here ∷ []) in let o = once.0 in omega arith
   held_once on_right is r once = let o = once.0 in omega arith
+
+  -- the anchor stands in no cut
+  pub anchor_top : here ≡ tree → (l.place ≡ below_top) × (l.top ≡ from_anchor)
+  anchor_top e = go l.place refl l.top_is (whole_once here)
+    where
+      go : (p : Place) → l.place ≡ p → TopIs p tree here l.top → IsOnce v.plan.trees (around p here (shown v [] here) l.sub) here
+          → (l.place ≡ below_top) × (l.top ≡ from_anchor)
+      go below_top p_is is once = (p_is, is.1)
+      go on_left p_is is once =
+          let t = times-++ here (in_order (bare l.sub)) (here ∷ []) in let o = one_here here in let far = once.1 (omega arith) in absurd (omega arith)
+      go on_right p_is is once = let o = one_here here in let far = once.1 (omega arith) in absurd (omega arith)
 
   rows_in : numbers rows ≡ in_order (bare l.sub)
   rows_in = ap numbers (sym l.rows_are) ∙ numbers_are (shown v []) (in_order (bare l.sub))

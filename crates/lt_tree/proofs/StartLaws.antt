@@ -29,7 +29,9 @@ use Rattle.lt_tree.proofs.StepLaws.{has_on, spot_on}
 use Rattle.lt_tree.specs.States.{KeepsRows}
 use Rattle.lt_tree.specs.Descents.{EndsAt, IsLast}
 use Rattle.lt_rows.specs.Lawful.{shown, KnowsTop}
-use Rattle.lt_tree.specs.States.{HasWords}
+use Rattle.lt_tree.specs.States.{HasWords, IsPrepared}
+use Rattle.lt_rows.specs.Teaching.{Teaches}
+use Rattle.lt_tree.proofs.ViewLaws.{only_gathers}
 use Rattle.lt_tree.specs.Descents.{Spot, at_anchor, at_row, Child, IsChild, Stays}
 use Rattle.lt_tree.specs.Gathers.{Place, below_top, on_left, on_right, link_at, TopIs, Beside, IsLocked, first_rows, first_hangs}
 
@@ -184,3 +186,32 @@ last_on v w tree asked here plan keeps l = record {
     ends_on (inr e) =
         let h = held_row v e.0 e.2 in
         inr (e.0, e.1, row_held w e.0 h.0 (keeps e.0 h ∙ h.1), ap (λ (x : Option Row). overlap (node_of (image_of x)).range asked) (keeps e.0 h) ∙ e.3)
+
+-- with the anchor held the part begins with its link alone
+
+pub anchor_starts : (v : View) (tree : ℕ) (asked : Interval) (anchor : RowImage) → IsPrepared v tree anchor → Teaches v
+    → IsTree (mode_of anchor.words) → IsLocked v tree asked tree [] ((node_of anchor.words).left ∷ [])
+anchor_starts v tree asked anchor p teaches mode = by_mode (mode_of anchor.words) refl mode
+  where
+    by_mode : (m : Mode) → mode_of anchor.words ≡ m → IsTree m → IsLocked v tree asked tree [] ((node_of anchor.words).left ∷ [])
+    by_mode (TreeMode score) e is = record {
+      place = below_top;
+      top = from_anchor;
+      score = score;
+      sub = end ((node_of anchor.words).left);
+      knows = ap mode_of p.0.2 ∙ e;
+      top_is = (refl, refl);
+      in_gap = tt;
+      beside = tt;
+      shows = ap (λ (ws : List ℕ). (node_of ws).left) p.0.2;
+      held_rows = λ q more. dite (ℕ_discrete q tree)
+          (λ same. subst (IsIn (has v)) (sym same) p.0.0)
+          (λ ne. absurd (let z : one_if (nat_eq tree q) ≡ 0 = none_one tree q ne in omega arith));
+      held_more = none_more v (tree ∷ in_order (bare (end ((node_of anchor.words).left))));
+      held_all = λ q h. (let o : one_if (nat_eq tree q) ≡ 1 = ap one_if (eq-eqb tree q (sym (p.2 q h))) in omega arith);
+      rows_are = refl;
+      hangs_are = refl;
+      teaches = teaches;
+      gathers = only_gathers v tree anchor.words p.0 p.2;
+    }
+    by_mode (Buffer txn count) e is = absurd is

@@ -163,6 +163,14 @@ prepared_loaded v w tree image loaded p same row words = (
   subst (HoldsOnly w) (sym row) (same_only v w tree same p.2),
 )
 
+pub prepared_again : (v w : View) (tree : ℕ) (image loaded : RowImage) → IsPrepared v tree image → w ≡ v → loaded.row ≡ tree
+    → loaded.words ≡ words_of (row_at v tree) → IsPrepared w tree loaded
+prepared_again v w tree image loaded p same row words = (
+  same_has v w tree loaded.words same (has_loaded v tree image.words loaded.words words p.0),
+  row,
+  same_only v w tree same p.2,
+)
+
 -- held rows stay
 
 pub keeps_same : (v : View) → KeepsRows v v

@@ -38,6 +38,38 @@ pub struct Locked<'a> {
     ghost of: { IsPassOf table.now pass × (0 < pass.rights) × (tree < table.now.plan.trees) },
 }
 
+/// Takes into a part that is begun all that a search for the range reaches. After a refusal no row is held.
+fn gather_rest(
+    table: &RowTable,
+    pass: &mut RowPass,
+    part: Part,
+    here: u32,
+    tree: u32,
+    asked: &KeyRange,
+    spins: u32,
+) -> Result<Part, Fault>
+    requires of { IsPassOf table.now pass.old }
+    requires right { 0 < pass.old.rights }
+    requires tree { tree < table.now.plan.trees }
+    requires begun { IsLocked (knows pass.old) tree asked.now here part.rows.items part.hangs.items }
+    ensures of { IsPassOf table.now pass.new × IsSamePass pass.old pass.new }
+    ensures only { OnlyRows (knows pass.old) (knows pass.new) }
+    ensures locked { IfOk result (λ part. IsLocked (knows pass.new) tree asked.now here part.rows.items part.hangs.items) }
+    ensures kept { IfOk result (λ _. KeepsRows (knows pass.old) (knows pass.new)) }
+    ensures closed { IfOk result (λ part. IsClosed asked.now part.rows.items part.hangs.items) }
+    ensures none { IfErr result (λ _. HoldsNone (knows pass.new)) }
+    ensures refused { IfErr result (λ fault. IsRefused (knows pass.old) (knows pass.new) fault) }
+{
+    let mut part = part;
+    match gather(table, pass, &mut part, spins, tree, asked, here) {
+        Ok(()) => Ok(part),
+        Err(fault) => {
+            put_part(table, pass, here, part.rows);
+            Err(fault)
+        }
+    }
+}
+
 /// Takes below the row that stays held all that a search for the range reaches. After a refusal no row is held.
 fn gather_below(
     table: &RowTable,
@@ -65,13 +97,7 @@ fn gather_below(
 {
     let mut part = part;
     begin(&mut part, &stop.child);
-    match gather(table, pass, &mut part, spins, tree, asked, stop.here.row) {
-        Ok(()) => Ok(part),
-        Err(fault) => {
-            put_part(table, pass, stop.here.row, part.rows);
-            Err(fault)
-        }
-    }
+    gather_rest(table, pass, part, stop.here.row, tree, asked, spins)
 }
 
 impl<'a> Prepared<'a> {
@@ -118,6 +144,55 @@ impl<'a> Prepared<'a> {
                 spins,
                 asked: *asked,
                 held: stop.here.row,
+                part,
+                pool: PoolRows::Nothing,
+            }),
+            Err(fault) => Err((pass, fault)),
+        }
+    }
+
+    /// The same with the anchor held: below it all is taken that a search for the range reaches.
+    ///
+    /// # Errors
+    /// As those of `acquire`.
+    pub fn keep_anchor(
+        self,
+        alloc: Global,
+        asked: &KeyRange,
+    ) -> Result<Locked<'a>, (RowPass, Fault)>
+        requires tree_mode { IsTree (mode_of self.image.words) }
+        ensures same { IfOk result (λ l. IsSamePass self.entry.pass l.pass × OnlyRows (knows self.entry.pass) (knows l.pass)) }
+        ensures kept { IfOk result (λ l. (l.table.now ≡ self.entry.table.now) × (l.tree ≡ self.entry.tree) × (l.asked ≡ asked.now)
+            × (l.held ≡ self.entry.tree) × (l.pool ≡ Nothing)) }
+        ensures locked { IfOk result (λ l. IsLocked (knows l.pass) l.tree l.asked l.held l.part.rows.items l.part.hangs.items) }
+        ensures closed { IfOk result (λ l. IsClosed l.asked l.part.rows.items l.part.hangs.items) }
+        ensures rows { IfOk result (λ l. KeepsRows (knows self.entry.pass) (knows l.pass)) }
+        ensures handed { IfErr result (λ r. IsPassOf self.entry.table.now r.0 × IsSamePass self.entry.pass r.0) }
+        ensures none { IfErr result (λ r. HoldsNone (knows r.0)) }
+        ensures only { IfErr result (λ r. OnlyRows (knows self.entry.pass) (knows r.0)) }
+        ensures refused { IfErr result (λ r. IsRefused (knows self.entry.pass) (knows r.0) r.1) }
+    {
+        let Ok(mut part) = empty_part(alloc) else {
+            return Err((self.cancel(), Fault::OutOfMemory));
+        };
+        let Prepared {
+            table,
+            pass,
+            tree,
+            spins,
+            image: _,
+        } = self;
+        let mut pass = pass;
+        let anchor = table.load_row(&mut pass, tree);
+        let _ = part.hangs.push(anchor.left() as u32);
+        match gather_rest(table, &mut pass, part, tree, tree, asked, spins) {
+            Ok(part) => Ok(Locked {
+                table,
+                pass,
+                tree,
+                spins,
+                asked: *asked,
+                held: tree,
                 part,
                 pool: PoolRows::Nothing,
             }),

@@ -7,7 +7,7 @@ use Rattle.lt_tree.specs.States.{HoldsElse}
 use Rattle.lt_tree.specs.Gathers.{IsLockedWith}
 use Rattle.lt_tree.specs.Pools.{pool_rows}
 use Rattle.lt_tree.specs.declared.pool.PoolRows.{PoolRows}
-use Rattle.lt_tree.proofs.ViewLaws.{keeps_on}
+use Rattle.lt_tree.proofs.ViewLaws.{rows_plan, keeps_on}
 use Rattle.lt_tree.proofs.PoolLaws.{pool_free, further_gone, locked_puts, same_again}
 use Rattle.lt_tree.proofs.locked.Locked.vacant.Goals as goal
 
@@ -42,9 +42,8 @@ returns-in-Err-take_first-clause-before c =
     let at : c.plan.result.now.trees ≡ y.plan.trees = ap (λ (p : YardPlan). p.trees) (c.plan.ensures ∙ sym s.of.0.1) in
     let gone = further_gone y s.tree s.asked s.held s.part.rows.items s.part.hangs.items y.plan.trees l w
     (subst (λ (n : ℕ). w ≡ with_row y n None) at c.put.ensures.given) in
-    let one : x.plan.trees ≡ v.plan.trees = ap (λ (u : View). u.plan.trees) c.in-Ok.ensures.same.1.0 in
-    let two : y.plan.trees ≡ x.plan.trees = ap (λ (u : View). u.plan.trees) c.in-Err-take_first.ensures.same.1.0 in
-    let same : y.plan.trees ≡ v.plan.trees = two ∙ one in (
+    let same = ap (λ (p : YardPlan). p.trees)
+    (rows_plan x y c.in-Err-take_first.ensures.same.1 ∙ rows_plan v x c.in-Ok.ensures.same.1) in (
       sym c.in-Nothing.is,
       same_again v x y w v.plan.trees (pool_free v a.tree a.asked a.held a.part.rows.items a.part.hangs.items before lt) c.in-Ok.ensures.others
           c.in-Err-take_first.ensures.before.1 (subst (λ (n : ℕ). row_at w n ≡ None) same gone.0) (subst (λ (n : ℕ). HoldsElse n y w) same gone.1),
