@@ -1,0 +1,4 @@
+pub mod HeldParts
+pub mod Questions
+pub mod DeedLaws
+pub mod OwnersLaws
