@@ -17,16 +17,16 @@ use Rattle.lt_rows.specs.Views.{has, rows_of}
 use Rattle.lt_rows.specs.Lawful.{shown}
 use Rattle.lt_rows.proofs.Planned.{view_is}
 use Rattle.lt_rows.proofs.WoodCommits.{seen_top, mode_top}
-use Rattle.lt_tree.specs.Gathers.{around, IsLocked}
+use Rattle.lt_tree.specs.Gathers.{around, IsLockedWith}
 use Rattle.lt_tree.proofs.PartLaws.{locked_is_part}
 
-module _ (v : View) (tree : ℕ) (asked : Interval) (here : ℕ) (rows : List PartRow) (hangs : List ℕ)
-    (l : IsLocked v tree asked here rows hangs) (lt : tree < v.plan.trees) where
+module _ (v : View) (tree : ℕ) (asked : Interval) (here : ℕ) (rows : List PartRow) (hangs more : List ℕ)
+    (l : IsLockedWith v tree asked here rows hangs more) (lt : tree < v.plan.trees) where
   abbrev whole_cut : Cut
   whole_cut = around l.place here (shown v [] here) l.sub
 
   pub part_held : HoldsPart (IsIn (has v)) tree l.top (shown v []) whole_cut
-  part_held = (locked_is_part v tree asked here rows hangs l lt).1
+  part_held = (locked_is_part v tree asked here rows hangs more l lt).1
 
   pub whole_lawful : IsLawful (pairs_in (shown v []) (bare whole_cut))
   whole_lawful =

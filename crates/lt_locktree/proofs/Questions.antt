@@ -23,15 +23,15 @@ use Rattle.lt_forest.proofs.PlansInView.{unchanged}
 use Rattle.lt_rows.specs.declared.view.View.{View}
 use Rattle.lt_rows.specs.Views.{has}
 use Rattle.lt_rows.specs.Lawful.{shown, mode_before, KnowsTop, ShowsFor, InTree, in_tree, IsCommit}
-use Rattle.lt_tree.specs.Gathers.{Place, below_top, on_left, on_right, around, TopIs, Beside, IsLocked, IsClosed}
+use Rattle.lt_tree.specs.Gathers.{Place, below_top, on_left, on_right, around, TopIs, Beside, IsLockedWith, IsClosed}
 use Rattle.lt_tree.proofs.PartLaws.{locked_is_closed}
 use Rattle.lt_locktree.proofs.HeldParts.{part_held, whole_lawful, sub_pairs}
 
 none_more : (n : ℕ) → 0 + n ≡ n
 none_more n = omega arith
 
-module _ (v : View) (tree : ℕ) (asked : Interval) (here : ℕ) (rows : List PartRow) (hangs : List ℕ)
-    (l : IsLocked v tree asked here rows hangs) (closed : IsClosed asked rows hangs) (lt : tree < v.plan.trees)
+module _ (v : View) (tree : ℕ) (asked : Interval) (here : ℕ) (rows : List PartRow) (hangs more : List ℕ)
+    (l : IsLockedWith v tree asked here rows hangs more) (closed : IsClosed asked rows hangs) (lt : tree < v.plan.trees)
     (interval : IsInterval asked) where
   abbrev c : Nodes
   c = shown v []
@@ -52,7 +52,7 @@ module _ (v : View) (tree : ℕ) (asked : Interval) (here : ℕ) (rows : List Pa
         subst (λ (t : Top). ShowsFor v.plan v [] txn deed t l.score l.sub l.sub) (sym is.1)
         (subst (λ (m : Mode). ShowsDeed (plain v.plan) txn deed c c l.sub l.sub m m)
         (sym (ap (λ (n : ℕ). mode_before v [] n) at ∙ subst (λ (t : Top). KnowsTop v tree t l.score) is.1 knows))
-        (below l.score (sub_pairs v tree asked here rows hangs l lt)))
+        (below l.score (sub_pairs v tree asked here rows hangs more l lt)))
     by_place on_left top is knows b lawful =
         subst (λ (t : Top). ShowsFor v.plan v [] txn deed t l.score (beside c (left_of here) l.sub) (beside c (left_of here) l.sub))
         (sym is.1) (inr (refl, λ s full. side s (left_of here) lawful b.0))
@@ -70,9 +70,9 @@ module _ (v : View) (tree : ℕ) (asked : Interval) (here : ℕ) (rows : List Pa
       given = [];
       knows = subst (λ (t : ℕ). KnowsTop v t l.top l.score) (sym at) l.knows;
       lays = subst (λ (t : ℕ). PlanLays (IsIn (has v)) [] v.plan.trees t l.top c c cut cut [] []) (sym at)
-          (unchanged v.plan.trees (part_held v tree asked here rows hangs l lt));
-      closed = subst (λ (r : Interval). IsClosedFor r l.top c cut) (sym on) (locked_is_closed v tree asked here rows hangs l closed);
-      shows = by_place l.place l.top l.top_is l.knows l.beside (whole_lawful v tree asked here rows hangs l lt);
+          (unchanged v.plan.trees (part_held v tree asked here rows hangs more l lt));
+      closed = subst (λ (r : Interval). IsClosedFor r l.top c cut) (sym on) (locked_is_closed v tree asked here rows hangs more l closed);
+      shows = by_place l.place l.top l.top_is l.knows l.beside (whole_lawful v tree asked here rows hangs more l lt);
       question = question;
     }
 

@@ -1,1 +1,3 @@
+pub mod Relaid
 pub mod LawsOfDeeds
+pub mod LawsOfGrants

@@ -1,8 +1,16 @@
 //! Laws of what is asked of a tree. Each function's contract is a law over the definitions; the bodies are empty.
 ghost use Rattle.lt_locktree.specs.LawsOfDeeds.{WhoCommits, HeldAskCommits};
+ghost use Rattle.lt_locktree.specs.LawsOfGrants.{MergedAskCommits, PutInAskCommits};
 
 /// What a search holds for a range answers who holds it, and an ask that others hold, by a commit that changes no row.
 pub fn questions_are_answered()
     ensures who { WhoCommits }
     ensures held { HeldAskCommits }
+{}
+
+/// An ask that nobody else stands against is granted by a commit of a plan that lays the part anew: all the transaction's rows that
+/// overlap become one, or a row of the pool is put in.
+pub fn asks_are_granted()
+    ensures merged { MergedAskCommits }
+    ensures put_in { PutInAskCommits }
 {}
