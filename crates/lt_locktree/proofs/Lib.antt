@@ -4,3 +4,7 @@ pub mod Grants
 pub mod GrantedRuns
 pub mod DeedLaws
 pub mod OwnersLaws
+pub mod PlannedRows
+pub mod DrawnParts
+pub mod DrawingLaws
+pub mod Relinks

@@ -1,3 +1,5 @@
+pub mod Drawn
+pub mod PlannedParts
 pub mod Relaid
 pub mod LawsOfDeeds
 pub mod LawsOfGrants
