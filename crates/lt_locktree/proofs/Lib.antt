@@ -8,3 +8,5 @@ pub mod PlannedRows
 pub mod DrawnParts
 pub mod DrawingLaws
 pub mod Relinks
+pub mod LaidParts
+pub mod PlanLaws

@@ -3,3 +3,4 @@ pub mod PlannedParts
 pub mod Relaid
 pub mod LawsOfDeeds
 pub mod LawsOfGrants
+pub mod LawsOfPlans

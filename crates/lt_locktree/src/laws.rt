@@ -1,6 +1,7 @@
 //! Laws of what is asked of a tree. Each function's contract is a law over the definitions; the bodies are empty.
 ghost use Rattle.lt_locktree.specs.LawsOfDeeds.{WhoCommits, HeldAskCommits};
 ghost use Rattle.lt_locktree.specs.LawsOfGrants.{MergedAskCommits, PutInAskCommits};
+ghost use Rattle.lt_locktree.specs.LawsOfPlans.{GrownPlanCommits, PutInPlanCommits};
 
 /// What a search holds for a range answers who holds it, and an ask that others hold, by a commit that changes no row.
 pub fn questions_are_answered()
@@ -13,4 +14,10 @@ pub fn questions_are_answered()
 pub fn asks_are_granted()
     ensures merged { MergedAskCommits }
     ensures put_in { PutInAskCommits }
+{}
+
+/// The plans of such asks, as they are made: where one row of the transaction overlaps, which grows, and where none does.
+pub fn plans_of_granted_asks()
+    ensures grown { GrownPlanCommits }
+    ensures put_in { PutInPlanCommits }
 {}
