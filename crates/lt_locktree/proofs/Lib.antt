@@ -10,3 +10,4 @@ pub mod DrawingLaws
 pub mod Relinks
 pub mod LaidParts
 pub mod PlanLaws
+pub mod MergedPlans

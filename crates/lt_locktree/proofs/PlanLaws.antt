@@ -82,7 +82,7 @@ module _ (v : View) (tree : ℕ) (asked : Interval) (here : ℕ) (rows : List Pa
       in_whole on_right some = omega arith
 
   -- each row that is held is named once
-  all_once : (q : ℕ) → times q more + times q (here ∷ []) + times q (numbers rows) ≤ 1
+  pub all_once : (q : ℕ) → times q more + times q (here ∷ []) + times q (numbers rows) ≤ 1
   all_once q =
       let b = (locked_backs v tree asked here rows hangs l lt).keeps.once q in
       let s = times-++ q more (here ∷ numbers rows) in

@@ -1,17 +1,20 @@
 -- The plans of granted asks, as they are made, from what a search holds.
-use Rattle.std.specs.Prelude.{◌≡◌, ℕ, pos, ◌+◌, ◌<◌, List, [], ◌∷◌, ◌++◌, length, take, drop, true, slice_index, slice_set}
+use Rattle.std.specs.Prelude.{◌≡◌, ℕ, ℤ, pos, ◌+ℤ◌, ◌+◌, ◌<◌, List, [], ◌∷◌, ◌++◌, map, length, take, drop, true, slice_index, slice_set}
 use Rattle.lt_ranges.specs.Interval.{Interval, IsInterval}
 use Rattle.lt_seq.specs.declared.event.Event.{Event}
 use Rattle.lt_seq.specs.declared.event.Deed.TheVariants.{Ask}
 use Rattle.lt_seq.specs.declared.event.Reply.TheVariants.{Granted}
+use Rattle.lt_seq.specs.declared.event.Pair.{Pair}
 use Rattle.lt_seq.specs.Pairs.{is_own}
 use Rattle.lt_forest.specs.declared.part.PartRow.{PartRow}
 use Rattle.lt_forest.specs.Counts.{times}
+use Rattle.lt_forest.specs.Pairs.{Has}
 use Rattle.lt_forest.specs.Parts.{row_pair}
 use Rattle.lt_rows.specs.declared.image.RowImage.{RowImage}
 use Rattle.lt_rows.specs.declared.view.View.{View}
 use Rattle.lt_rows.specs.Lawful.{IsCommit}
 use Rattle.lt_tree.specs.Gathers.{IsLockedWith, IsClosed}
+use Rattle.lt_locktree.specs.Given.{IsChained, given_to}
 use Rattle.lt_locktree.specs.PlannedParts.{PlansRows, IsLoaded}
 use Rattle.lt_locktree.specs.LawsOfGrants.{StandsBetween, NoBufferBegins, merged_row, new_row}
 
@@ -45,3 +48,18 @@ PutInPlanCommits =
     (take (length ahead) hangs ++ 0 ∷ 0 ∷ drop (length ahead + 1) hangs)
     → e.pass + 1 ≡ v.mark → e.deed ≡ Ask tree asked Granted
     → IsCommit v.plan v e plan (pos 1)
+
+-- Several rows of the transaction overlap: the first one gets the span, and the others are given to the front of the pool.
+abbrev pub MergedPlanCommits : Type 0
+MergedPlanCommits =
+    (v : View) (tree : ℕ) (asked : Interval) (here : ℕ) (ahead : List PartRow) (r : PartRow) (run behind : List PartRow)
+    (hangs more : List ℕ) (stays pool : RowImage) (given : List RowImage) (link : ℕ) (plan : List RowImage) (e : Event) (change : ℤ)
+    → IsLockedWith v tree asked here (ahead ++ (r ∷ run ++ behind)) hangs more
+    → IsClosed asked (ahead ++ (r ∷ run ++ behind)) hangs → tree < v.plan.trees → IsInterval asked
+    → StandsBetween asked ahead behind → ((p : Pair) → Has p (map row_pair (r ∷ run)) → is_own e.txn asked p ≡ true)
+    → 0 < times v.plan.trees more → IsLoaded v here stays → IsLoaded v v.plan.trees pool
+    → IsChained given link run (slice_index pool.words 17)
+    → PlansRows tree asked stays (given_to pool link ∷ given) plan (ahead ++ merged_row e.txn asked r run ∷ behind)
+    (take (length ahead + 1) hangs ++ drop (length ahead + 1 + length run) hangs)
+    → e.pass + 1 ≡ v.mark → e.deed ≡ Ask tree asked Granted → change +ℤ pos (length run) ≡ pos 0
+    → IsCommit v.plan v e plan change

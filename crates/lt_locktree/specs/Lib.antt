@@ -1,5 +1,6 @@
 pub mod Drawn
 pub mod PlannedParts
+pub mod Given
 pub mod Relaid
 pub mod LawsOfDeeds
 pub mod LawsOfGrants

@@ -1,7 +1,7 @@
 //! Laws of what is asked of a tree. Each function's contract is a law over the definitions; the bodies are empty.
 ghost use Rattle.lt_locktree.specs.LawsOfDeeds.{WhoCommits, HeldAskCommits};
 ghost use Rattle.lt_locktree.specs.LawsOfGrants.{MergedAskCommits, PutInAskCommits};
-ghost use Rattle.lt_locktree.specs.LawsOfPlans.{GrownPlanCommits, PutInPlanCommits};
+ghost use Rattle.lt_locktree.specs.LawsOfPlans.{GrownPlanCommits, MergedPlanCommits, PutInPlanCommits};
 
 /// What a search holds for a range answers who holds it, and an ask that others hold, by a commit that changes no row.
 pub fn questions_are_answered()
@@ -16,8 +16,10 @@ pub fn asks_are_granted()
     ensures put_in { PutInAskCommits }
 {}
 
-/// The plans of such asks, as they are made: where one row of the transaction overlaps, which grows, and where none does.
+/// The plans of such asks, as they are made: where one row of the transaction overlaps, where several do, and where
+/// none does.
 pub fn plans_of_granted_asks()
     ensures grown { GrownPlanCommits }
+    ensures merged { MergedPlanCommits }
     ensures put_in { PutInPlanCommits }
 {}
