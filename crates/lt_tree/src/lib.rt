@@ -17,3 +17,5 @@ pub use descent::{Stop, descend};
 pub use locked::Locked;
 pub use pool::PoolRows;
 pub use prepare::{Anchor, Prepared, try_prepare};
+pub use put::put_all;
+pub use seize::seize as try_take;

@@ -11,7 +11,7 @@ use lt_forest::PartRow;
 use lt_rows::{RowPass, RowTable};
 
 /// Gives these rows back, of which the words are those that count.
-pub(crate) fn put_all(table: &RowTable, pass: &mut RowPass, rows: Vec<u32>)
+pub fn put_all(table: &RowTable, pass: &mut RowPass, rows: Vec<u32>)
     requires of { IsPassOf table.now pass.old }
     requires keeps { Keeps (knows pass.old) rows.items }
     ensures of { IsPassOf table.now pass.new × IsSamePass pass.old pass.new }

@@ -7,7 +7,7 @@ ghost use Rattle.lt_tree.specs.States.{Seizes};
 use lt_rows::{RowPass, RowTable, Take};
 
 /// Tries to take a row, at most 1 + spins times.
-pub(crate) fn seize(table: &RowTable, pass: &mut RowPass, row: u32, spins: u32) -> Take
+pub fn seize(table: &RowTable, pass: &mut RowPass, row: u32, spins: u32) -> Take
     requires of { IsPassOf table.now pass.old }
     requires right { 0 < pass.old.rights }
     requires row { (row < rows_of table.now.plan) × (row_at (knows pass.old) row ≡ None) }

@@ -1,0 +1,5 @@
+mod ChainRows
+mod HoldingLaws
+mod FrontLaws
+mod ImageLaws
+mod AddLaws

@@ -1,0 +1,11 @@
+//! The buffer of a lone transaction in a table of shared rows: a chain of rows below its tree's anchor. Each call is lent a pass
+//! that holds the anchor.
+#![tactic(auto)]
+
+mod add;
+mod front;
+mod image;
+mod images;
+mod put;
+
+pub use add::{append, begin};
