@@ -1,5 +1,5 @@
 -- Which rows a pass holds, from step to step.
-use Rattle.std.proofs.Common.{◌≡◌, ◌≢◌, inl, inr, ⊎_elim, ◌⊎◌, ℕ, ◌<◌, ◌≤◌, List, [], ◌∷◌, refl, sym, ap, ◌∙◌, subst, arith, ne_eqb}
+use Rattle.std.proofs.Common.{◌≡◌, ◌≢◌, inl, inr, ⊎_elim, ◌⊎◌, ℕ, zero, suc, ◌<◌, ◌≤◌, List, [], ◌∷◌, refl, sym, ap, ◌∙◌, subst, arith, ne_eqb}
 use Rattle.std.specs.Prelude.{Option, Some, None, nat_eq}
 use Rattle.lt_forest.specs.Counts.{one_if, times}
 use Rattle.lt_forest.specs.Views.{IsIn}
@@ -13,7 +13,7 @@ use Rattle.lt_rows.proofs.Frames.{Some-none}
 use Rattle.lt_rows.proofs.Planned.{row_held, held_row}
 use Rattle.lt_rows.proofs.StepLaws.{put_row_is_gone}
 use Rattle.lt_tree.specs.States.{HoldsNone, OnlyMet, Seizes, HasWords, KeepsRows}
-use Rattle.lt_tree.specs.Puttings.{Keeps, Backs}
+use Rattle.lt_tree.specs.Puttings.{Keeps, Backs, Puts}
 use Rattle.lt_tree.proofs.ViewLaws.{met_rows, met_gathers, seized_else, seized_row, seized_gathers, put_gathers}
 use Rattle.lt_tree.proofs.PuttingLaws.{same_or_other}
 
@@ -110,3 +110,51 @@ backs_put r v w rows e b = record {
 pub keeps_taken : (r : ℕ) (v w : View) (rows : List ℕ) → Seizes r v w Taken → times r rows ≡ 0 → Backs v rows → KeepsRows v w
 keeps_taken r v w rows s none b q h =
     seized_else r v w s q (λ e. (let z : times q rows ≡ 0 = ap (λ (n : ℕ). times n rows) e ∙ none in let more = b.held_all q h in absurd (omega arith)))
+
+-- the order of the rows says nothing
+pub backs_order : (v : View) (xs ys : List ℕ) → ((q : ℕ) → times q xs ≡ times q ys) → Backs v xs → Backs v ys
+backs_order v xs ys same b = record {
+  keeps = record {
+    held = λ q more. (let s = same q in b.keeps.held q (omega arith));
+    once = λ q. (let s = same q in let n = b.keeps.once q in omega arith);
+    gathers = b.keeps.gathers;
+  };
+  held_all = λ q h. (let s = same q in let more = b.held_all q h in omega arith);
+}
+
+-- rows of which some are given back
+module _ (v w : View) (r : ℕ) (rows : List ℕ) (b : Backs v (r ∷ rows)) where
+  pub keeps_rest : Keeps v rows
+  keeps_rest = record {
+    held = λ q more. b.keeps.held q (omega arith);
+    once = λ q. (let n = b.keeps.once q in omega arith);
+    gathers = b.keeps.gathers;
+  }
+
+  not_named : times r rows ≡ 0
+  not_named = let n = b.keeps.once r in let o = one_here r in omega arith
+
+  pub backs_one : Puts v w rows → Backs w (r ∷ [])
+  backs_one p = record {
+    keeps = record {
+      held = λ q more. ⊎_elim
+          (λ (is : q ≡ r).
+          let h = b.keeps.held r (let o = one_here r in omega arith) in
+          (h.0, ap (row_at w) is ∙ (p.others r not_named ∙ h.1)))
+          (λ (ne : (q ≢ r) × (one_if (nat_eq r q) ≡ 0)). absurd (let z = ne.1 in omega arith))
+          (same_or_other r q);
+      once = λ q. ⊎_elim
+          (λ (is : q ≡ r). let o = one_equal q r is in omega arith)
+          (λ (ne : (q ≢ r) × (one_if (nat_eq r q) ≡ 0)). let z = ne.1 in omega arith)
+          (same_or_other r q);
+      gathers = p.gathers;
+    };
+    held_all = λ q h. ⊎_elim
+        (λ (is : q ≡ r). let o = one_equal q r is in omega arith)
+        (λ (ne : (q ≢ r) × (one_if (nat_eq r q) ≡ 0)). absurd (still q h ne.1 (times q rows) refl))
+        (same_or_other r q);
+  }
+    where
+      still : (q : ℕ) → IsHeld w q → one_if (nat_eq r q) ≡ 0 → (n : ℕ) → times q rows ≡ n → ⊥
+      still q h z zero e = let more = b.held_all q (h.0, sym (p.others q e) ∙ h.1) in omega arith
+      still q h z (suc n) e = Some-none h.0 (sym (p.gone q (omega arith)) ∙ h.1)

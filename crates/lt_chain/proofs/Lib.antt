@@ -3,3 +3,6 @@ mod HoldingLaws
 mod FrontLaws
 mod ImageLaws
 mod AddLaws
+mod WalkLaws
+mod PairLaws
+mod ReadLaws

@@ -6,6 +6,10 @@ mod add;
 mod front;
 mod image;
 mod images;
+mod pairs;
 mod put;
+mod read;
+mod walk;
 
 pub use add::{append, begin};
+pub use read::{ChainRead, to_pairs};
