@@ -14,3 +14,4 @@ pub mod ClosedLaws
 pub mod AnchorLaws
 pub mod WritingLaws
 pub mod PoolLaws
+pub mod NewPasses

@@ -19,3 +19,6 @@ pub use pool::PoolRows;
 pub use prepare::{Anchor, Prepared, try_prepare};
 pub use put::put_all;
 pub use seize::seize as try_take;
+
+#[cfg(test)]
+mod tests;

@@ -1,0 +1,135 @@
+//! Searches of an empty tree, on one thread.
+ghost use Rattle.std.specs.Prelude.{◌≡◌, ◌<◌, ◌≤◌, IfOk, IfSome};
+ghost use Rattle.lt_seq.specs.Yard.{IsPlan};
+ghost use Rattle.lt_rows.specs.Handles.{knows, IsPassOf};
+ghost use Rattle.lt_tree.specs.States.{HoldsNone};
+
+use crate::prepare::try_prepare;
+use lt_ranges::KeyRange;
+use lt_rows::{RowPass, RowTable};
+use lt_seq::{Fault, YardPlan};
+use std::alloc::{AllocError, Global};
+use std::test::Fail;
+
+fn plan() -> YardPlan
+    ensures { IsPlan result × (result.trees ≡ 2) × (result.passes ≡ 2) }
+{
+    YardPlan {
+        trees: 2,
+        limit: 4,
+        buffer: 0,
+        passes: 2,
+        first: 0,
+    }
+}
+
+/// A table of two passes, of which each has a right.
+fn both(alloc: Global, plan: &YardPlan) -> Result<Option<(RowTable, RowPass, RowPass)>, AllocError>
+    requires plan { IsPlan plan.now × (plan.now.passes ≡ 2) }
+    ensures of { IfOk result (λ o. IfSome o (λ r. IsPassOf r.0 r.1 × IsPassOf r.0 r.2 × (r.0.plan ≡ plan.now))) }
+    ensures rights { IfOk result (λ o. IfSome o (λ r. (r.1.rights ≡ 1) × (r.2.rights ≡ 1))) }
+    ensures none { IfOk result (λ o. IfSome o (λ r. HoldsNone (knows r.1) × HoldsNone (knows r.2))) }
+{
+    let (table, passes) = RowTable::build(alloc, plan)?;
+    let mut passes = passes;
+    let Some(mut two) = passes.pop() else {
+        return Ok(None);
+    };
+    let Some(mut one) = passes.pop() else {
+        return Ok(None);
+    };
+    let note = table.share(&mut one, 1);
+    table.learn(&mut two, note);
+    Ok(Some((table, one, two)))
+}
+
+#[test]
+fn a_prepared_tree_is_given_back(rt: HostRuntime) -> Result<(), Fail> {
+    let Some((table, one, two)) = both(rt.alloc(), &plan())? else {
+        assert!(rt; false, "no passes");
+        return Ok(());
+    };
+    let Ok(first) = try_prepare(&table, one, 1, 0) else {
+        assert!(rt; false, "the anchor is held");
+        return Ok(());
+    };
+    let anchor = first.anchor();
+    assert!(rt; anchor.top == 0 && anchor.buffer_txn == 0 && anchor.score == 100);
+    let _one = first.cancel();
+    assert!(rt; try_prepare(&table, two, 1, 0).is_ok());
+    Ok(())
+}
+
+#[test]
+fn a_tree_is_prepared_by_one_pass_alone(rt: HostRuntime) -> Result<(), Fail> {
+    let Some((table, one, two)) = both(rt.alloc(), &plan())? else {
+        assert!(rt; false, "no passes");
+        return Ok(());
+    };
+    let Ok(_first) = try_prepare(&table, one, 1, 3) else {
+        assert!(rt; false, "the anchor is held");
+        return Ok(());
+    };
+    match try_prepare(&table, two, 1, 3) {
+        Ok(_) => assert!(rt; false, "the anchor is free"),
+        Err((_, fault)) => assert!(rt; matches!(fault, Fault::Busy { row: 1, holder: 0 })),
+    }
+    Ok(())
+}
+
+#[test]
+fn a_search_of_an_empty_tree_holds_the_anchor(rt: HostRuntime) -> Result<(), Fail> {
+    let Some((table, one, two)) = both(rt.alloc(), &plan())? else {
+        assert!(rt; false, "no passes");
+        return Ok(());
+    };
+    let Ok(first) = try_prepare(&table, one, 1, 0) else {
+        assert!(rt; false, "the anchor is held");
+        return Ok(());
+    };
+    if first.anchor().buffer_txn != 0 {
+        assert!(rt; false, "the tree is a buffer");
+        return Ok(());
+    }
+    let Ok(locked) = first.acquire(rt.alloc(), &KeyRange::whole()) else {
+        assert!(rt; false, "the search is refused");
+        return Ok(());
+    };
+    assert!(rt; locked.held() == 1);
+    assert!(rt; locked.part().rows.is_empty() && locked.part().hangs.as_slice() == [0].as_slice());
+    let _one = locked.release();
+    assert!(rt; try_prepare(&table, two, 1, 0).is_ok());
+    Ok(())
+}
+
+#[test]
+fn a_search_takes_the_pools_anchor_and_gives_it_back(rt: HostRuntime) -> Result<(), Fail> {
+    let Some((table, one, two)) = both(rt.alloc(), &plan())? else {
+        assert!(rt; false, "no passes");
+        return Ok(());
+    };
+    let mut one = one;
+    let _ = table.look(&mut one);
+    let Ok(first) = try_prepare(&table, one, 0, 0) else {
+        assert!(rt; false, "the anchor is held");
+        return Ok(());
+    };
+    if first.anchor().buffer_txn != 0 {
+        assert!(rt; false, "the tree is a buffer");
+        return Ok(());
+    }
+    let Ok(kept) = first.keep_anchor(rt.alloc(), &KeyRange::whole()) else {
+        assert!(rt; false, "the search is refused");
+        return Ok(());
+    };
+    let mut kept = kept;
+    assert!(rt; kept.held() == 0);
+    assert!(rt; kept.pool().is_ok());
+    let Ok(second) = try_prepare(&table, two, 1, 0) else {
+        assert!(rt; false, "the other anchor is held");
+        return Ok(());
+    };
+    let _two = second.cancel();
+    let _one = kept.release();
+    Ok(())
+}
