@@ -1,5 +1,6 @@
 -- Rows of the pool, taken beside a part and given back.
-use Rattle.std.proofs.Common.{◌≡◌, ◌≢◌, inl, inr, ⊎_elim, ◌⊎◌, ℕ, ◌+◌, ◌-◌, ◌<◌, true, List, [], ◌∷◌, refl, sym, ap, ◌∙◌, subst, arith, eq-eqb, ne_eqb}
+use Rattle.std.proofs.Common.{◌≡◌, ◌≢◌, inl, inr, ⊎_elim, ◌⊎◌, ℕ, ◌+◌, ◌-◌, ◌<◌, true, List, [], ◌∷◌, refl, sym, ap, ◌∙◌, subst, arith}
+use Rattle.std.proofs.Common.{eq-eqb, ne_eqb}
 use Rattle.std.specs.Prelude.{Option, Some, None, nat_eq}
 use mathlib.Core.Logic.{dite}
 use native.Mathlib.Decide.{ℕ_discrete}
@@ -129,7 +130,11 @@ module _ (v : View) (tree : ℕ) (asked : Interval) (here : ℕ) (rows : List Pa
           row_held w q h.0 (takes_keeps q h ∙ h.1))
           (same_or_other r q);
       once = λ q. ⊎_elim
-          (λ (is : q ≡ r). let z = absent more l.held_more.held in let same : times q more ≡ times r more = ap (λ (n : ℕ). times n more) is in let o = one_equal q r is in omega arith)
+          (λ (is : q ≡ r).
+          let z = absent more l.held_more.held in
+          let same : times q more ≡ times r more = ap (λ (n : ℕ). times n more) is in
+          let o = one_equal q r is in
+          omega arith)
           (λ (ne : (q ≢ r) × (one_if (nat_eq r q) ≡ 0)). let z = ne.1 in let o = l.held_more.once q in omega arith)
           (same_or_other r q);
       apart = λ q some. ⊎_elim
@@ -143,7 +148,10 @@ module _ (v : View) (tree : ℕ) (asked : Interval) (here : ℕ) (rows : List Pa
         locked_on w (λ q some. takes_keeps q (held_row v q (l.held_rows q some))) (r ∷ more) more_on
         (λ q h. ⊎_elim
         (λ (is : q ≡ r). let o = one_equal q r is in omega arith)
-        (λ (ne : (q ≢ r) × (one_if (nat_eq r q) ≡ 0)). let z = ne.1 in let a = l.held_all q (h.0, sym (seized_else r v w s q ne.0) ∙ h.1) in omega arith)
+        (λ (ne : (q ≢ r) × (one_if (nat_eq r q) ≡ 0)).
+        let z = ne.1 in
+        let a = l.held_all q (h.0, sym (seized_else r v w s q ne.0) ∙ h.1) in
+        omega arith)
         (same_or_other r q))
         teaches (seized_gathers r v w s l.gathers)
 
@@ -159,7 +167,8 @@ module _ (v : View) (tree : ℕ) (asked : Interval) (here : ℕ) (rows : List Pa
   stays_in : (q : ℕ) → 0 < times q (here ∷ in_order (bare l.sub)) → q ≢ r
   stays_in q some is =
       let a = l.held_more.apart r (let o = one_here r in omega arith) in
-      let same : times q (here ∷ in_order (bare l.sub)) ≡ times r (here ∷ in_order (bare l.sub)) = ap (λ (n : ℕ). times n (here ∷ in_order (bare l.sub))) is in
+      let same : times q (here ∷ in_order (bare l.sub)) ≡ times r (here ∷ in_order (bare l.sub)) =
+      ap (λ (n : ℕ). times n (here ∷ in_order (bare l.sub))) is in
       omega arith
 
   less_in : (q : ℕ) → 0 < times q more → q ≢ r
@@ -236,7 +245,8 @@ finds_vacant v tree asked here rows hangs l lt licensed link link_is =
     let first = vacant v l.teaches.0 l.teaches.2 licensed anchor_held in
     let is : (shown v [] v.plan.trees).left ≡ first.0 + 1 = first.1 in
     let same : link - 1 ≡ first.0 = omega arith in
-    elim (names_further v l.teaches.0 l.teaches.2 (left_of v.plan.trees) anchor_held (of_anchor v l.teaches.0 l.teaches.2 v.plan.trees (omega arith))) [
+    let of = of_anchor v l.teaches.0 l.teaches.2 v.plan.trees (omega arith) in
+    elim (names_further v l.teaches.0 l.teaches.2 (left_of v.plan.trees) anchor_held of) [
       | inl z ↦ absurd (omega arith)
       | inr x ↦
           let named = x.1 in let far = x.2 in let near = x.3 in
@@ -260,8 +270,7 @@ finds_vacant v tree asked here rows hangs l lt licensed link link_is =
           | inl at ↦ omega arith
           | inr there ↦
               let z = apart_in v tree asked here rows hangs l lt q anchor_held is in
-              let t : times n (in_order (bare (around l.place here (shown v [] here) l.sub))) ≡ times q (in_order (bare (around l.place here (shown v [] here) l.sub))) =
-              ap (λ (m : ℕ). times m (in_order (bare (around l.place here (shown v [] here) l.sub)))) same in
+              let t = ap (λ (m : ℕ). times m (in_order (bare (around l.place here (shown v [] here) l.sub)))) same in
               omega arith
         ])
 
@@ -283,10 +292,10 @@ anchor_held v tree asked here rows hangs pool l has_anchor = held_row v v.plan.t
   where
     named : HasAnchor pool → 0 < times v.plan.trees (pool_rows v.plan.trees pool)
     named (inl is) =
-        let e : times v.plan.trees (pool_rows v.plan.trees pool) ≡ times v.plan.trees (v.plan.trees ∷ []) = ap (λ (p : PoolRows). times v.plan.trees (pool_rows v.plan.trees p)) is in
+        let e = ap (λ (p : PoolRows). times v.plan.trees (pool_rows v.plan.trees p)) is in
         let o = one_here v.plan.trees in omega arith
     named (inr is) =
-        let e : times v.plan.trees (pool_rows v.plan.trees pool) ≡ times v.plan.trees (is.0 ∷ v.plan.trees ∷ []) = ap (λ (p : PoolRows). times v.plan.trees (pool_rows v.plan.trees p)) is.1 in
+        let e = ap (λ (p : PoolRows). times v.plan.trees (pool_rows v.plan.trees p)) is.1 in
         let o = one_here v.plan.trees in omega arith
 
 -- the pool's anchor is loaded, and the row to which it leads is taken
@@ -301,7 +310,8 @@ module _ {v : View} {tree : ℕ} {asked : Interval} {here : ℕ} {rows : List Pa
   pub pool_here : IsHeld v t
   pool_here = subst (IsHeld v) (sym at_pool) pool_held
 
-  module _ (licensed : v.licensed ≡ true) (loaded : List ℕ) (words : loaded ≡ words_of (row_at v t)) (link : ℕ) (link_is : link ≡ (node_of loaded).left) where
+  module _ (licensed : v.licensed ≡ true) (loaded : List ℕ) (words : loaded ≡ words_of (row_at v t)) (link : ℕ)
+      (link_is : link ≡ (node_of loaded).left) where
     counts : loaded ≡ image_of (row_at v v.plan.trees)
     counts =
         words ∙ (ap (λ (n : ℕ). words_of (row_at v n)) at_pool

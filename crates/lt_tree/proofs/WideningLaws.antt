@@ -237,7 +237,8 @@ module _ (v : View) (tree : ℕ) (asked : Interval) (here : ℕ) (rows : List Pa
             (λ e. subst (IsIn (has w)) (sym e) has_r.0)
             (λ ne. w_held q (l.held_rows q (let z : one_if (nat_eq r q) ≡ 0 = ap one_if (ne_eqb r q (λ x'. ne (sym x'))) in omega arith)))
 
-        all_new : (q : ℕ) → times q (in_order (bare wide.wider)) ≡ times q (in_order (bare l.sub)) + (one_if (nat_eq r q) + 0) → IsHeld w q → 0 < times q (here ∷ in_order (bare wide.wider)) + times q []
+        all_new : (q : ℕ) → times q (in_order (bare wide.wider)) ≡ times q (in_order (bare l.sub)) + (one_if (nat_eq r q) + 0)
+            → IsHeld w q → 0 < times q (here ∷ in_order (bare wide.wider)) + times q []
         all_new q t h = dite (ℕ_discrete q r)
             (λ e. let o : one_if (nat_eq r q) ≡ 1 = ap one_if (eq-eqb r q (sym e)) in omega arith)
             (λ ne. let a = l.held_all q (h.0, sym (seized_else r v w s q ne) ∙ h.1) in omega arith)

@@ -8,7 +8,8 @@ use Rattle.lt_rows.specs.declared.view.View.{View}
 use Rattle.lt_rows.specs.declared.view.Row.{Row}
 use Rattle.lt_rows.specs.declared.view.SeenGap.{SeenGap}
 use Rattle.lt_rows.specs.declared.image.RowImage.{RowImage}
-use Rattle.lt_rows.specs.Views.{Holds, IsHeld, row_at, has, is_some, words_of, images, image_of, with_row, written, planned, planned_contents, changed, committed, settled, set_gaps, AllHeld}
+use Rattle.lt_rows.specs.Views.{Holds, IsHeld, row_at, has, is_some, words_of, images, image_of, with_row, written, AllHeld}
+use Rattle.lt_rows.specs.Views.{planned, planned_contents, changed, committed, settled, set_gaps}
 use Rattle.lt_rows.specs.Gaps.{new_gaps}
 use Rattle.lt_rows.specs.Handles.{IsGathering}
 use Rattle.lt_rows.proofs.Frames.{changed_at, changed_else}
@@ -49,7 +50,8 @@ module _ (v w : View) (plan : List RowImage) (p : RowImage) (ps : List RowImage)
         → (q : ℕ) → P (row_at u q) (row_at w q)
     by_row P other here q = dite (ℕ_discrete q p.row)
         (λ is. subst (λ (n : ℕ). P (row_at u n) (row_at w n)) (sym is)
-        (subst (λ (x : Option Row). P x (row_at w p.row)) (sym stored.0) (subst (P (Some record (s.held.0.0) { words = p.words })) (sym s.held.0.1) here)))
+        (subst (λ (x : Option Row). P x (row_at w p.row)) (sym stored.0)
+        (subst (P (Some record (s.held.0.0) { words = p.words })) (sym s.held.0.1) here)))
         (λ ne. subst (λ (x : Option Row). P x (row_at w q)) (sym (stored.1 q ne)) (other (row_at w q)))
 
     same_has : (q : ℕ) → has u q ≡ has w q
@@ -86,7 +88,8 @@ pub record IsPlanned (v u : View) (plan : List RowImage) : Type 0 where
   pub images_are : (q : ℕ) → IsHeld v q → images u q ≡ planned_contents (images v) plan q
   pub words_stay : (q : ℕ) → IsHeld v q → words_in u q ≡ words_in v q
 
-planned_by : (v u : View) (plan : List RowImage) (gs : List (Option SeenGap)) → ((q : ℕ) → row_at u q ≡ get_or (planned (set_gaps v.held gs) plan) q None)
+planned_by : (v u : View) (plan : List RowImage) (gs : List (Option SeenGap))
+    → ((q : ℕ) → row_at u q ≡ get_or (planned (set_gaps v.held gs) plan) q None)
     → ((q : ℕ) (row : Row) → Holds v q row → (new : Row) × Holds u q new × (new.words ≡ row.words) × (new.image ≡ planned_contents (images v) plan q))
     → IsPlanned v u plan
 planned_by v u plan gs none each = record {

@@ -49,7 +49,8 @@ returns-in-Anchor-clause-put c =
     let t = c.plan.result.now.trees in
     let same = ap (λ (k : YardPlan). k.trees) (c.plan.ensures ∙ sym c.requires.of.1) in
     puts_all v u rows []
-    (puts_one v v rows rows (puts_none v rows c.requires.keeps) [] t (pool_anchor v.plan.trees t c.args.pool same c.in-Anchor.is) u c.put.ensures.given) refl
+    (puts_one v v rows rows (puts_none v rows c.requires.keeps) [] t (pool_anchor v.plan.trees t c.args.pool same c.in-Anchor.is) u
+    c.put.ensures.given) refl
 
 pub returns-in-Vacant-clause-put : goal.returns-in-Vacant-clause-put
 returns-in-Vacant-clause-put c =

@@ -15,7 +15,8 @@ pub commit-place-requires-clause-lawful : goal.commit-place-requires-clause-lawf
 commit-place-requires-clause-lawful c =
     subst (λ (n : ℤ). IsCommit c.args.self.table.now.plan (knows c.args.self.pass) c.args.event.now c.args.plan.now n)
     (sym (to_z-of_z w64 c.args.change c.ranges.change))
-    (subst (λ (k : YardPlan). IsCommit k (knows c.args.self.pass) c.args.event.now c.args.plan.now c.args.change) c.args.self.of.0.1 c.requires.lawful)
+    (subst (λ (k : YardPlan). IsCommit k (knows c.args.self.pass) c.args.event.now c.args.plan.now c.args.change) c.args.self.of.0.1
+    c.requires.lawful)
 
 pub write_all-requires-clause-held : goal.write_all-requires-clause-held
 write_all-requires-clause-held c =

@@ -20,7 +20,8 @@ take_row-requires-clause-row c =
     let k = c.args.self.now.table.now.plan in
     let lt = subst (λ (p : YardPlan). c.args.self.now.tree < p.trees) (sym s.of.0.1) s.of.2 in
     let same : c.plan.result.now.trees ≡ v.plan.trees = ap (λ (p : YardPlan). p.trees) (c.plan.ensures ∙ sym s.of.0.1) in
-    let l = subst (λ (p : PoolRows). IsLockedWith v s.tree s.asked s.held s.part.rows.items s.part.hangs.items (pool_rows v.plan.trees p)) c.in-Nothing.is c.requires.locked in (
+    let l = subst (λ (p : PoolRows). IsLockedWith v s.tree s.asked s.held s.part.rows.items s.part.hangs.items
+    (pool_rows v.plan.trees p)) c.in-Nothing.is c.requires.locked in (
       subst (λ (p : YardPlan). p.trees < rows_of c.args.self.now.table.now.plan) (sym c.plan.ensures) (anchor_row c.args.self.now.table.now.plan),
       subst (λ (n : ℕ). row_at v n ≡ _) (sym same) (pool_free v s.tree s.asked s.held s.part.rows.items s.part.hangs.items l lt),
     )
@@ -40,7 +41,8 @@ returns-in-Ok-clause-locked c =
     let w : View = knows c.take_row.new.pass in
     let s = c.args.self.now in
     let lt = subst (λ (p : YardPlan). c.args.self.now.tree < p.trees) (sym s.of.0.1) s.of.2 in
-    let l = subst (λ (p : PoolRows). IsLockedWith v s.tree s.asked s.held s.part.rows.items s.part.hangs.items (pool_rows v.plan.trees p)) c.in-Nothing.is c.requires.locked in
+    let l = subst (λ (p : PoolRows). IsLockedWith v s.tree s.asked s.held s.part.rows.items s.part.hangs.items
+    (pool_rows v.plan.trees p)) c.in-Nothing.is c.requires.locked in
     let free = pool_free v s.tree s.asked s.held s.part.rows.items s.part.hangs.items l lt in
     let at : c.plan.result.now.trees ≡ v.plan.trees = ap (λ (p : YardPlan). p.trees) (c.plan.ensures ∙ sym s.of.0.1) in
     let same : v.plan.trees ≡ w.plan.trees = ap (λ (p : YardPlan). p.trees) (s.of.0.1 ∙ sym c.in-Ok.ensures.of.0.1) in
@@ -54,7 +56,8 @@ returns-in-Ok-clause-rows c =
     let w : View = knows c.take_row.new.pass in
     let s = c.args.self.now in
     let lt = subst (λ (p : YardPlan). c.args.self.now.tree < p.trees) (sym s.of.0.1) s.of.2 in
-    let l = subst (λ (p : PoolRows). IsLockedWith v s.tree s.asked s.held s.part.rows.items s.part.hangs.items (pool_rows v.plan.trees p)) c.in-Nothing.is c.requires.locked in
+    let l = subst (λ (p : PoolRows). IsLockedWith v s.tree s.asked s.held s.part.rows.items s.part.hangs.items
+    (pool_rows v.plan.trees p)) c.in-Nothing.is c.requires.locked in
     let free = pool_free v s.tree s.asked s.held s.part.rows.items s.part.hangs.items l lt in
     let at : c.plan.result.now.trees ≡ v.plan.trees = ap (λ (p : YardPlan). p.trees) (c.plan.ensures ∙ sym s.of.0.1) in
     takes_keeps v s.tree s.asked s.held s.part.rows.items s.part.hangs.items l w v.plan.trees

@@ -54,7 +54,8 @@ returns-in-Err-clause-locked c =
     let w : View = knows c.take_row.new.pass in
     let met = subst (λ (u : View). OnlyMet u w) c.load_row-image.ensures.same c.in-Err.ensures.only in
     let same : v.plan.trees ≡ w.plan.trees = ap (λ (p : YardPlan). p.trees) (s.of.0.1 ∙ sym c.in-Err.ensures.of.0.1) in
-    subst (λ (p : PoolRows). IsLockedWith w s.tree s.asked s.held s.part.rows.items s.part.hangs.items (pool_rows w.plan.trees p)) (sym c.requires.anchor)
+    subst (λ (p : PoolRows). IsLockedWith w s.tree s.asked s.held s.part.rows.items s.part.hangs.items (pool_rows w.plan.trees p))
+    (sym c.requires.anchor)
     (subst (λ (n : ℕ). IsLockedWith w s.tree s.asked s.held s.part.rows.items s.part.hangs.items (n ∷ [])) same
     (locked_met v w s.tree s.asked s.held s.part.rows.items s.part.hangs.items met c.requires.locked))
 

@@ -35,7 +35,8 @@ returns-in-Err-take_first-clause-before c =
     let x : View = knows c.pool.new.self.pass in
     let y : View = knows c.take_first-in-Nothing.new.self.pass in
     let w : View = knows c.put.new.pass in
-    let before = subst (λ (p : PoolRows). IsLockedWith v a.tree a.asked a.held a.part.rows.items a.part.hangs.items (pool_rows v.plan.trees p)) c.in-Nothing.is c.requires.locked in
+    let before = subst (λ (p : PoolRows). IsLockedWith v a.tree a.asked a.held a.part.rows.items a.part.hangs.items
+    (pool_rows v.plan.trees p)) c.in-Nothing.is c.requires.locked in
     let lt = subst (λ (p : YardPlan). c.args.self.now.tree < p.trees) (sym a.of.0.1) a.of.2 in
     let l = subst (λ (p : PoolRows). IsLockedWith y s.tree s.asked s.held s.part.rows.items s.part.hangs.items (pool_rows y.plan.trees p))
     c.in-Err-take_first.ensures.before.0 c.in-Err-take_first.ensures.locked in
