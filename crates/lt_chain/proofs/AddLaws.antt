@@ -1,26 +1,22 @@
 -- The plan for one row more in a buffer meets the condition of a commit.
-use Rattle.std.proofs.Common.{◌≡◌, ◌⊎◌, inl, inr, ℕ, ◌+◌, ◌<◌, List, [], ◌∷◌, refl, sym, ap, ◌∙◌, subst, arith, ne_eqb}
+use Rattle.std.proofs.Common.{◌≡◌, inl, inr, ℕ, ◌+◌, ◌<◌, List, [], ◌∷◌, refl, sym, ap, ◌∙◌, subst, arith, ne_eqb}
 use Rattle.std.specs.Prelude.{pos, slice_index, Bool, true, false, nat_eq}
-use Rattle.lt_ranges.specs.Interval.{Interval}
 use Rattle.lt_seq.specs.declared.plan.YardPlan.{YardPlan}
 use Rattle.lt_seq.specs.declared.event.Event.{Event}
 use Rattle.lt_seq.specs.declared.event.Mode.TheVariants.{Tree as TreeMode, Buffer}
 use Rattle.lt_seq.specs.declared.event.Mode.{Mode}
 use Rattle.lt_seq.specs.Table.{tree_of}
-use Rattle.lt_seq.specs.SeqPass.{plain}
 use Rattle.lt_forest.specs.Trees.{Node}
 use Rattle.lt_forest.specs.Forest.{IsTree}
 use Rattle.lt_forest.proofs.SameRows.{one_here}
 use Rattle.lt_forest.specs.Buffers.{PutsFirst}
 use Rattle.lt_rows.specs.declared.view.View.{View}
-use Rattle.lt_rows.specs.declared.image.RowImage.{RowImage}
 use Rattle.lt_rows.specs.Nodes.{node_of, mode_of, mode_by}
 use Rattle.lt_rows.specs.Views.{row_at, words_of, images, image_of}
-use Rattle.lt_rows.specs.Lawful.{shown, shown_after, mode_before, mode_after, How, begins_buffer, adds_to_buffer, IsCommit}
-use Rattle.lt_rows.proofs.ThreeRows.{is_left}
+use Rattle.lt_rows.specs.Lawful.{shown, shown_after, mode_after, How, begins_buffer, adds_to_buffer, IsCommit}
 use Rattle.lt_chain.specs.declared.images.Images.{Images}
 use Rattle.lt_chain.specs.Buffers.{MayBegin, MayAppend, AsksBuffered}
-use Rattle.lt_chain.specs.Images.{HasImages, IsFirst, AddsRow, MayAdd, chain_node}
+use Rattle.lt_chain.specs.Images.{HasImages, IsFirst, AddsRow, MayAdd}
 use Rattle.lt_tree.specs.States.{KeepsRows}
 use Rattle.lt_tree.specs.Puttings.{Backs}
 use Rattle.lt_chain.proofs.HoldingLaws.{backs_held, backs_has}

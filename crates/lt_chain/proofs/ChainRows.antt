@@ -1,8 +1,7 @@
 -- What the words of a chain's row show.
-use Rattle.std.proofs.Common.{◌≡◌, ℕ, List, [], ◌∷◌, length, get_or, true, refl, sym, ap, ap₂, ◌∙◌, arith}
-use Rattle.std.specs.Prelude.{Some, if◌then◌else◌}
+use Rattle.std.proofs.Common.{◌≡◌, ℕ, List, [], ◌∷◌, length, get_or, refl, ap, ap₂, ◌∙◌, arith}
+use Rattle.std.specs.Prelude.{if◌then◌else◌}
 use Rattle.lt_ranges.specs.declared.key.Key.{Key}
-use Rattle.lt_ranges.specs.Key.{key_le}
 use Rattle.lt_ranges.specs.Interval.{Interval, IsInterval}
 use Rattle.lt_ranges.specs.Packing.{IsValid, packed}
 use Rattle.lt_ranges.proofs.PackingLaws.{unpacked_again}

@@ -1,26 +1,23 @@
 -- The pool's anchor and its first row, taken.
-use Rattle.std.proofs.Common.{◌≡◌, ◌≢◌, ℕ, ◌+◌, ◌-◌, ◌<◌, ◌≤◌, true, List, [], ◌∷◌, refl, sym, ap, ◌∙◌, subst, arith}
-use Rattle.std.specs.Prelude.{None, slice_index}
+use Rattle.std.proofs.Common.{◌≡◌, ◌≢◌, ℕ, ◌+◌, ◌-◌, ◌<◌, true, List, [], ◌∷◌, sym, ap, ◌∙◌, subst, arith}
+use Rattle.std.specs.Prelude.{slice_index}
 use Rattle.lt_forest.specs.Counts.{times}
 use Rattle.lt_forest.specs.Views.{IsIn}
 use Rattle.lt_forest.proofs.SameRows.{one_here}
 use Rattle.lt_seq.specs.declared.plan.YardPlan.{YardPlan}
-use Rattle.lt_seq.specs.Yard.{IsPlan}
 use Rattle.lt_rows.specs.declared.view.View.{View}
-use Rattle.lt_rows.specs.declared.image.RowImage.{RowImage}
-use Rattle.lt_rows.specs.declared.take.Take.TheVariants.{Taken, HeldBy}
+use Rattle.lt_rows.specs.declared.take.Take.TheVariants.{Taken}
 use Rattle.lt_rows.specs.Nodes.{node_of}
 use Rattle.lt_rows.specs.Views.{row_at, rows_of, words_of, images, has}
 use Rattle.lt_rows.specs.Teaching.{Teaches}
 use Rattle.lt_rows.proofs.Lessons.{vacant}
-use Rattle.lt_rows.proofs.Planned.{row_held}
 use Rattle.lt_rows.proofs.Views.{link_read}
-use Rattle.lt_tree.specs.States.{HoldsNone, OnlyMet, OnlyRows, Seizes, HasWords, KeepsRows}
+use Rattle.lt_tree.specs.States.{Seizes, HasWords}
 use Rattle.lt_tree.specs.Puttings.{Backs}
-use Rattle.lt_tree.proofs.ViewLaws.{seized_else, keeps_on}
+use Rattle.lt_tree.proofs.ViewLaws.{seized_else}
 use Rattle.lt_chain.specs.declared.images.Images.{Images}
 use Rattle.lt_chain.specs.Images.{HasImages, HoldsThree}
-use Rattle.lt_chain.proofs.HoldingLaws.{one_else, backs_out, backs_has, backs_taken, keeps_taken}
+use Rattle.lt_chain.proofs.HoldingLaws.{one_else, backs_out, backs_has, backs_taken}
 
 pub pool_row : (k : YardPlan) → k.trees < rows_of k
 unfolding rows_of

@@ -1,16 +1,15 @@
 -- Which rows a pass holds, from step to step.
-use Rattle.std.proofs.Common.{◌≡◌, ◌≢◌, inl, inr, ⊎_elim, ◌⊎◌, ℕ, zero, suc, ◌<◌, ◌≤◌, List, [], ◌∷◌, refl, sym, ap, ◌∙◌, subst, arith, ne_eqb}
+use Rattle.std.proofs.Common.{◌≡◌, ◌≢◌, ⊎_elim, ℕ, zero, suc, ◌<◌, List, [], ◌∷◌, refl, sym, ap, ◌∙◌, subst, arith, ne_eqb}
 use Rattle.std.specs.Prelude.{Option, Some, None, nat_eq}
 use Rattle.lt_forest.specs.Counts.{one_if, times}
-use Rattle.lt_forest.specs.Views.{IsIn}
 use Rattle.lt_forest.proofs.SameRows.{one_here, one_equal}
 use Rattle.lt_rows.specs.declared.view.View.{View}
 use Rattle.lt_rows.specs.declared.view.Row.{Row}
 use Rattle.lt_rows.specs.declared.take.Take.TheVariants.{Taken}
-use Rattle.lt_rows.specs.Views.{Holds, IsHeld, row_at, has, images, image_of, words_of, with_row}
+use Rattle.lt_rows.specs.Views.{Holds, IsHeld, row_at, image_of, words_of, with_row}
 use Rattle.lt_rows.specs.Teaching.{Teaches}
 use Rattle.lt_rows.proofs.Frames.{Some-none}
-use Rattle.lt_rows.proofs.Planned.{row_held, held_row}
+use Rattle.lt_rows.proofs.Planned.{row_held}
 use Rattle.lt_rows.proofs.StepLaws.{put_row_is_gone}
 use Rattle.lt_tree.specs.States.{HoldsNone, OnlyMet, Seizes, HasWords, KeepsRows}
 use Rattle.lt_tree.specs.Puttings.{Keeps, Backs, Puts}

@@ -1,6 +1,6 @@
 -- A plan for a tree's anchor, the pool's and one row more.
-use Rattle.std.proofs.Common.{◌≡◌, ◌≢◌, ℕ, ◌+◌, ◌<◌, List, [], ◌∷◌, refl, sym, ap, ◌∙◌, subst, arith}
-use Rattle.std.specs.Prelude.{None, slice_index}
+use Rattle.std.proofs.Common.{◌≡◌, ◌≢◌, ℕ, ◌<◌, List, [], ◌∷◌, sym, ap, ◌∙◌, subst, arith}
+use Rattle.std.specs.Prelude.{slice_index}
 use mathlib.Core.Logic.{dite}
 use native.Mathlib.Decide.{ℕ_discrete}
 use Rattle.lt_seq.specs.declared.plan.YardPlan.{YardPlan}
@@ -8,17 +8,16 @@ use Rattle.lt_seq.specs.declared.event.Event.{Event}
 use Rattle.lt_forest.specs.Counts.{times}
 use Rattle.lt_forest.specs.Views.{IsIn, PlansThese, PlansOnly}
 use Rattle.lt_rows.specs.declared.view.View.{View}
-use Rattle.lt_rows.specs.declared.view.Row.{Row}
 use Rattle.lt_rows.specs.declared.image.RowImage.{RowImage}
 use Rattle.lt_rows.specs.Nodes.{node_of}
-use Rattle.lt_rows.specs.Views.{Holds, row_at, committed, has, images, changed, planned_contents, planned_rows, AllHeld as AllPlanned}
+use Rattle.lt_rows.specs.Views.{row_at, committed, has, images, changed, planned_contents, planned_rows, AllHeld as AllPlanned}
 use Rattle.lt_rows.specs.Lawful.{shown, shown_after}
 use Rattle.lt_rows.proofs.Frames.{changed_at, changed_else}
 use Rattle.lt_rows.proofs.Planned.{held_row}
 use Rattle.lt_rows.proofs.Views.{committed_at}
 use Rattle.lt_rows.proofs.Wide.{still_none}
 use Rattle.lt_rows.proofs.ThreeRows.{is_left}
-use Rattle.lt_tree.specs.States.{HoldsNone, HasWords}
+use Rattle.lt_tree.specs.States.{HoldsNone}
 use Rattle.lt_chain.specs.declared.images.Images.{Images}
 use Rattle.lt_chain.specs.Images.{HasImages, HoldsThree, HoldsImage, HoldsImages, AreApart, IsGone}
 use Rattle.lt_chain.proofs.HoldingLaws.{one_else}

@@ -6,3 +6,5 @@ mod AddLaws
 mod WalkLaws
 mod PairLaws
 mod ReadLaws
+mod DropLaws
+mod HandingLaws

@@ -1,5 +1,5 @@
 -- The pairs of a chain, granted from its last row to its first.
-use Rattle.std.proofs.Common.{◌≡◌, ◌≢◌, ℕ, zero, suc, ◌+◌, ◌-◌, ◌<◌, ◌≤◌, List, [], ◌∷◌, ◌++◌, length, take, get_or, refl, sym, ap, ◌∙◌, subst, arith}
+use Rattle.std.proofs.Common.{◌≡◌, ℕ, zero, suc, ◌+◌, ◌-◌, ◌<◌, ◌≤◌, List, [], ◌∷◌, ◌++◌, length, take, get_or, sym, ap, ◌∙◌, subst, arith}
 use Rattle.std.proofs.lemmas.List.{take_all, take_more}
 use Rattle.lt_ranges.specs.Interval.{Interval}
 use Rattle.lt_seq.specs.declared.event.Pair.{Pair}
@@ -28,7 +28,7 @@ at_stands [] i lt = absurd (omega arith)
 at_stands (x ∷ xs) zero lt = let o = one_here x in omega arith
 at_stands (x ∷ xs) (suc i) lt = let s = at_stands xs i (omega arith) in omega arith
 
-last_of : (xs : List ℕ) (n : ℕ) → 0 < n → n ≤ length xs → take n xs ≡ take (n - 1) xs ++ get_or xs (n - 1) 0 ∷ []
+pub last_of : (xs : List ℕ) (n : ℕ) → 0 < n → n ≤ length xs → take n xs ≡ take (n - 1) xs ++ get_or xs (n - 1) 0 ∷ []
 last_of xs n ne le = ap (λ (m : ℕ). take m xs) (let e : n ≡ (n - 1) + 1 = omega arith in e) ∙ take_more xs (n - 1) 0 (omega arith)
 
 module _ (v : View) (tree txn : ℕ) (rows : List ℕ) (b : Backs v (tree ∷ rows)) where

@@ -1,5 +1,5 @@
 -- What a pass has read once it has come to the end of a buffer's chain.
-use Rattle.std.proofs.Common.{◌≡◌, ℕ, ◌<◌, Bool, true, false, List, [], ◌∷◌, refl, sym, ap, ◌∙◌, subst, arith}
+use Rattle.std.proofs.Common.{◌≡◌, ℕ, ◌<◌, Bool, true, false, List, [], ◌∷◌, sym, ap, ◌∙◌, subst}
 use Rattle.std.specs.Prelude.{nat_eq, slice_index}
 use Rattle.lt_seq.specs.declared.event.Mode.{Mode}
 use Rattle.lt_seq.specs.declared.event.Mode.TheVariants.{Tree as TreeMode, Buffer}
@@ -39,8 +39,10 @@ module _ (v z : View) (tree owner count : ℕ) (rows : List ℕ) (w : Walks v tr
   pub holds_chain : HoldsChain z tree rows
   holds_chain = subst (λ (x : View). HoldsChain x tree rows) (sym same) record {
     backs = w.backs;
-    buffer = (owner, count, w.mode);
-    chain = run_ends (shown v []) (shown v [] tree).left rows w.run;
+    shows = record {
+      buffer = (owner, count, w.mode);
+      chain = run_ends (shown v []) (shown v [] tree).left rows w.run;
+    };
   }
 
   pub reads_pairs : (pairs : List Held) → pairs ≡ held_in tree (folded (shown v [] tree).owner (shown v []) rows) → ReadsPairs z tree rows pairs

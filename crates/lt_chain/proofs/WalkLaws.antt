@@ -1,6 +1,6 @@
 -- A walk along a buffer's chain.
-use Rattle.std.proofs.Common.{◌≡◌, ◌≢◌, ℕ, ◌+◌, ◌<◌, ◌≤◌, List, [], ◌∷◌, ◌++◌, set, get_or, refl, sym, ap, ◌∙◌, subst, arith}
-use Rattle.std.specs.Prelude.{Some, None}
+use Rattle.std.proofs.Common.{◌≡◌, ℕ, ◌+◌, ◌<◌, ◌≤◌, List, [], ◌∷◌, ◌++◌, set, sym, ap, ◌∙◌, subst, arith}
+use Rattle.std.specs.Prelude.{Some}
 use Rattle.lt_seq.specs.declared.event.Event.{Event}
 use Rattle.lt_seq.specs.declared.event.Mode.TheVariants.{Buffer}
 use Rattle.lt_seq.specs.declared.event.Mode.{Mode}
@@ -9,16 +9,15 @@ use mathlib.Core.Logic.{dite}
 use native.Mathlib.Decide.{ℕ_discrete}
 use Rattle.lt_seq.specs.History.{after}
 use Rattle.lt_seq.specs.SeqPass.{plain}
-use Rattle.lt_forest.specs.Counts.{times, total}
+use Rattle.lt_forest.specs.Counts.{times}
 use Rattle.lt_forest.specs.Trees.{Node, Nodes}
 use Rattle.lt_forest.specs.Forest.{Forest, IsForest, IsChain, IsRun, rows_at}
-use Rattle.lt_forest.specs.Views.{IsIn, AllHeld}
+use Rattle.lt_forest.specs.Views.{IsIn}
 use Rattle.lt_forest.proofs.Chains.{total_has, on_run, cut_chain}
 use Rattle.lt_forest.proofs.ForestLaws.{as_chain}
 use Rattle.lt_forest.proofs.FurtherRows.{in_tree_further}
 use Rattle.lt_forest.proofs.SameRows.{one_here, one_equal, times-++, AgreeOn}
 use Rattle.lt_rows.specs.declared.view.View.{View}
-use Rattle.lt_rows.specs.declared.view.Row.{Row}
 use Rattle.lt_rows.specs.declared.take.Take.TheVariants.{Taken}
 use Rattle.lt_rows.specs.Nodes.{node_of, mode_of, nodes, modes}
 use Rattle.lt_rows.specs.Views.{row_at, rows_of, words_of, images, image_of, has}
@@ -29,10 +28,10 @@ use Rattle.lt_rows.proofs.Planned.{row_held, view_is, mode_held}
 use Rattle.lt_tree.specs.States.{Seizes, KeepsRows}
 use Rattle.lt_tree.specs.Puttings.{Backs}
 use Rattle.lt_tree.specs.Descents.{free_rows}
-use Rattle.lt_tree.proofs.ViewLaws.{met_rows, seized_else}
+use Rattle.lt_tree.proofs.ViewLaws.{met_rows}
 use Rattle.lt_tree.proofs.DownLaws.{free_take}
-use Rattle.lt_chain.specs.Chains.{ShowsBuffer, Walks}
-use Rattle.lt_chain.proofs.HoldingLaws.{one_else, backs_held, backs_out, backs_has, backs_taken, backs_order, backs_same, keeps_taken}
+use Rattle.lt_chain.specs.Chains.{Walks}
+use Rattle.lt_chain.proofs.HoldingLaws.{one_else, backs_held, backs_out, backs_has, backs_taken, backs_order, keeps_taken}
 
 -- runs
 
@@ -97,12 +96,12 @@ module _ (v : View) (tree owner count r : ℕ) (rows : List ℕ) (w : Walks v tr
   next_row =
       let forest = w.teaches.2.shape.forest in
       let at = as_chain (nodes w.teaches.2.contents) (nodes w.teaches.2.contents tree).left (w.teaches.2.forest.tree tree) (tree_at (after (plain v.plan) w.teaches.0) tree).pairs
-          (modes w.teaches.2.contents tree) owner count mode_is (forest.grown tree lt) in
+      (modes w.teaches.2.contents tree) owner count mode_is (forest.grown tree lt) in
       let cut = cut_chain (nodes w.teaches.2.contents) (nodes w.teaches.2.contents tree).left rows at.rows (r + 1) at.leads true_run in
       let same : (q : ℕ) → times q (rows_at (w.teaches.2.forest.tree tree)) ≡ times q at.rows = (λ q. ap (λ g. times q (rows_at g)) at.is) in
       at_rest cut.rest at.rows cut.is cut.on
-          (λ q some. in_tree_further forest tree q lt (let s = same q in omega arith))
-          (λ q. (let s = same q in let n = stands_once forest tree q lt in omega arith))
+      (λ q some. in_tree_further forest tree q lt (let s = same q in omega arith))
+      (λ q. (let s = same q in let n = stands_once forest tree q lt in omega arith))
 
 -- the row is taken and loaded
 module _ (v u : View) (tree owner count r : ℕ) (rows ws : List ℕ) (w : Walks v tree owner count rows (r + 1)) (lt : tree < v.plan.trees)

@@ -1,5 +1,5 @@
 -- Images of a tree's anchor, of the pool's and of one row more.
-use Rattle.std.specs.Prelude.{◌≡◌, ◌≢◌, ◌⊎◌, ℕ, ◌+◌, ◌<◌, None, slice_index}
+use Rattle.std.specs.Prelude.{◌≡◌, ◌≢◌, ◌⊎◌, ℕ, ◌+◌, ◌<◌, List, [], ◌∷◌, ◌++◌, ◌-◌, length, take, None, slice_index}
 use Rattle.lt_ranges.specs.Interval.{Interval}
 use Rattle.lt_forest.specs.Trees.{Node}
 use Rattle.lt_seq.specs.declared.plan.YardPlan.{YardPlan}
@@ -60,3 +60,18 @@ pub record AddsRow (i : Images) (txn count : ℕ) (range : Interval) (n : Images
   pub pool_link : slice_index n.pool.words 17 ≡ slice_index i.row.words 17
   pub row_is : n.row.row ≡ i.row.row
   pub node : node_of n.row.words ≡ chain_node txn range (slice_index i.anchor.words 17)
+
+-- the row is the last one of these
+abbrev pub EndsWith : List ℕ → Images → Type 0
+EndsWith rows i = rows ≡ take (length rows - 1) rows ++ i.row.row ∷ []
+
+-- the images that leave the tree empty, and let the chain's last row lead to the pool's first, and the pool's anchor to the chain
+pub record DropsChain (i n : Images) : Type 0 where
+  pub anchor_row : n.anchor.row ≡ i.anchor.row
+  pub no_owner : slice_index n.anchor.words 0 ≡ 0
+  pub no_top : slice_index n.anchor.words 17 ≡ 0
+  pub score : slice_index n.anchor.words 19 ≡ 100
+  pub pool_row : n.pool.row ≡ i.pool.row
+  pub pool_link : slice_index n.pool.words 17 ≡ slice_index i.anchor.words 17
+  pub row_is : n.row.row ≡ i.row.row
+  pub joint : slice_index n.row.words 17 ≡ slice_index i.pool.words 17

@@ -3,6 +3,7 @@
 #![tactic(auto)]
 
 mod add;
+mod drop;
 mod front;
 mod image;
 mod images;
@@ -12,4 +13,5 @@ mod read;
 mod walk;
 
 pub use add::{append, begin};
+pub use drop::drop_all;
 pub use read::{ChainRead, to_pairs};

@@ -1,4 +1,4 @@
-use Rattle.std.proofs.Common.{◌≡◌, ◌∙◌, inl, inr, sym, ap, subst}
+use Rattle.std.proofs.Common.{subst}
 use Rattle.lt_ranges.specs.Interval.{Interval}
 use Rattle.lt_rows.specs.Handles.{knows}
 use Rattle.lt_tree.proofs.ViewLaws.{rows_on, keeps_on}

@@ -1,4 +1,4 @@
-use Rattle.std.proofs.Common.{◌≡◌, inl, inr, sym, ap, subst, ◌∙◌}
+use Rattle.std.proofs.Common.{sym, subst}
 use Rattle.std.specs.Prelude.{slice_index}
 use Rattle.lt_rows.specs.Handles.{knows}
 use Rattle.lt_rows.specs.declared.view.View.{View}

@@ -1,6 +1,5 @@
-use Rattle.std.proofs.Common.{arith, ℕ, suc, ◌+◌, ◌≡◌, ◌≢◌, ◌-◌, ◌<◌, [], ◌∷◌, List, refl, sym, ap, ◌∙◌, subst, true}
+use Rattle.std.proofs.Common.{arith, ℕ, suc, ◌≡◌, ◌≢◌, ◌-◌, ◌<◌, [], ◌∷◌, sym, ap, ◌∙◌, subst}
 use Rattle.std.specs.Prelude.{slice_index}
-use Rattle.lt_forest.specs.Counts.{times}
 use Rattle.lt_forest.proofs.SameRows.{one_here}
 use Rattle.lt_rows.proofs.ThreeRows.{is_left}
 use Rattle.lt_rows.specs.declared.view.View.{View}
@@ -9,7 +8,7 @@ use Rattle.lt_rows.specs.Views.{IsHeld, row_at, rows_of, words_of}
 use Rattle.lt_rows.specs.Handles.{knows}
 use Rattle.lt_tree.specs.Puttings.{Backs}
 use Rattle.lt_chain.proofs.HoldingLaws.{backs_none_left, backs_out, backs_held, backs_may_put, backs_met, backs_same, backs_taken, backs_put, keeps_taken}
-use Rattle.lt_tree.proofs.ViewLaws.{keeps_on, rows_seized}
+use Rattle.lt_tree.proofs.ViewLaws.{rows_seized}
 use Rattle.lt_chain.specs.Images.{HasImages, HoldsThree}
 use Rattle.lt_chain.proofs.FrontLaws.{pool_row, first_vacant, pool_apart, first_apart, three_held}
 use Rattle.lt_chain.proofs.front.take_front.Goals as goal

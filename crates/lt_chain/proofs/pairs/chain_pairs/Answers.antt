@@ -1,19 +1,17 @@
-use Rattle.std.proofs.Common.{rules, arith, ℕ, ◌≡◌, ◌≢◌, ◌-◌, ◌≤◌, length, [], ◌∷◌, refl, sym, ap, ◌∙◌, subst}
+use Rattle.std.proofs.Common.{arith, ◌-◌, length, [], refl, sym, ap, ◌∙◌, subst}
 use Rattle.std.specs.Prelude.{slice_index_or}
 use Rattle.lt_rows.specs.declared.view.View.{View}
 use Rattle.lt_rows.specs.Views.{IsHeld, row_at, words_of}
 use Rattle.lt_rows.specs.Handles.{knows}
 use Rattle.lt_rows.specs.Lawful.{shown}
 use Rattle.lt_rows.specs.Walks.{InGrants}
-use Rattle.lt_seq.specs.declared.event.Pair.{Pair}
-use Rattle.std.proofs.Common.{List, take}
+use Rattle.std.proofs.Common.{take}
 use Rattle.lt_chain.proofs.PairLaws.{grants_begin, row_held, grants_on, grants_end}
 use Rattle.lt_chain.proofs.pairs.chain_pairs.Goals as goal
 
 pub loop-at-init : goal.loop-at-init
 loop-at-init c =
-    let v : View = knows c.args.pass.now in
-    (
+    let v : View = knows c.args.pass.now in (
       c.requires.of,
       (refl, refl),
       refl,
@@ -31,8 +29,7 @@ load_row-row-requires-clause-row c =
 pub loop-at-preserved : goal.loop-at-preserved
 loop-at-preserved c =
     let i = c.loop-at.invariant in
-    let load = c.load_row-row.ensures in
-    (
+    let load = c.load_row-row.ensures in (
       load.of.0,
       (load.of.1.0 ∙ i.1.0, load.of.1.1 ∙ i.1.1),
       load.same ∙ i.2,

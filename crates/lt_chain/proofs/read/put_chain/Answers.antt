@@ -1,4 +1,4 @@
-use Rattle.std.proofs.Common.{arith, ◌≡◌, ◌<◌, ℕ, [], ◌∷◌}
+use Rattle.std.proofs.Common.{arith, [], ◌∷◌}
 use Rattle.lt_forest.proofs.SameRows.{one_here}
 use Rattle.lt_rows.specs.Handles.{knows}
 use Rattle.lt_chain.proofs.HoldingLaws.{keeps_rest, backs_one, backs_may_put, backs_put, backs_none_left}

@@ -1,10 +1,8 @@
-use Rattle.std.proofs.Common.{rules, arith, ◌++◌, ℕ, ◌≡◌, ◌≢◌, ◌+◌, ◌-◌, ◌<◌, List, [], ◌∷◌, refl, sym, ap, ◌∙◌, subst}
-use Rattle.lt_forest.specs.Counts.{times}
+use Rattle.std.proofs.Common.{rules, arith, ◌++◌, ℕ, ◌≡◌, ◌≢◌, ◌+◌, ◌-◌, ◌<◌, List, [], ◌∷◌, sym, ap, ◌∙◌, subst}
 use Rattle.lt_forest.proofs.SameRows.{one_here}
 use Rattle.lt_seq.specs.declared.plan.YardPlan.{YardPlan}
 use Rattle.lt_rows.specs.declared.view.View.{View}
-use Rattle.lt_rows.specs.Nodes.{node_of}
-use Rattle.lt_rows.specs.Views.{row_at, rows_of}
+use Rattle.lt_rows.specs.Views.{rows_of}
 use Rattle.lt_rows.specs.Handles.{knows}
 use Rattle.lt_tree.specs.States.{OnlyRows, KeepsRows}
 use Rattle.lt_tree.specs.Puttings.{Backs}
@@ -12,7 +10,7 @@ use Rattle.lt_tree.specs.Descents.{free_rows}
 use Rattle.lt_tree.proofs.ViewLaws.{rows_on, rows_seized, keeps_on}
 use Rattle.lt_chain.specs.Chains.{Walks}
 use Rattle.lt_chain.proofs.HoldingLaws.{backs_out, backs_held, backs_may_put, backs_put}
-use Rattle.lt_chain.proofs.WalkLaws.{next_row, taken_backs, listed_backs, taken_keeps, walks_on, fewer_free}
+use Rattle.lt_chain.proofs.WalkLaws.{next_row, taken_backs, taken_keeps, walks_on, fewer_free}
 use Rattle.lt_chain.proofs.walk.take_chain.Goals as goal
 
 pub overflow_cast-row : goal.overflow_cast-row
@@ -143,14 +141,15 @@ loop-link-preserved c =
     let load = c.load_row-in-loop-link.ensures in
     let only : OnlyRows (knows c.load_row.new.pass) (knows c.seize.new.pass) = rows_on (knows c.load_row.new.pass) v u i.2 (rows_seized r v u s) in
     let keeps : KeepsRows (knows c.load_row.new.pass) (knows c.seize.new.pass) = keeps_on (knows c.load_row.new.pass) v u i.3 (taken_keeps v u tree i.4.0 i.4.1 r rows [] w lt s) in
-    let seize = c.in-Taken.ensures.of in
-    (
+    let seize = c.in-Taken.ensures.of in (
       load.of.0,
       (load.of.1.0 ∙ (seize.1.0 ∙ i.1.0), load.of.1.1 ∙ (seize.1.1 ∙ i.1.1)),
       subst (λ (x : View). OnlyRows (knows c.load_row.new.pass) x) (sym load.same) only,
       subst (λ (x : View). KeepsRows (knows c.load_row.new.pass) x) (sym load.same) keeps,
-      (i.4.0,
-      i.4.1,
-      subst (λ (x : List ℕ × ℕ). Walks (knows c.load_row-in-loop-link.new.pass) c.args.tree i.4.0 i.4.1 x.0 x.1) (λ j. (sym pushed j, sym c.left-link-in-loop-link.ensures j))
-          (walks_on v u tree i.4.0 i.4.1 r rows c.load_row-in-loop-link.result.words w lt s z load.same load.teaches load.words.1)),
+      (
+        i.4.0,
+        i.4.1,
+        subst (λ (x : List ℕ × ℕ). Walks (knows c.load_row-in-loop-link.new.pass) c.args.tree i.4.0 i.4.1 x.0 x.1) (λ j. (sym pushed j, sym c.left-link-in-loop-link.ensures j))
+            (walks_on v u tree i.4.0 i.4.1 r rows c.load_row-in-loop-link.result.words w lt s z load.same load.teaches load.words.1),
+      ),
     )

@@ -1,4 +1,4 @@
-use Rattle.std.proofs.Common.{◌≡◌, ℕ}
+use Rattle.std.proofs.Common.{ℕ}
 use Rattle.lt_rows.specs.Handles.{knows, IsPassOf, IsSamePass}
 use Rattle.lt_tree.specs.States.{OnlyRows, KeepsRows}
 use Rattle.lt_tree.specs.Descents.{free_rows}
