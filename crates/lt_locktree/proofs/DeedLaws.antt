@@ -15,7 +15,7 @@ use Rattle.lt_rows.specs.Lawful.{shown}
 use Rattle.lt_locktree.specs.LawsOfDeeds.{WhoCommits, HeldAskCommits}
 use Rattle.lt_locktree.proofs.HeldParts.{sub_pairs}
 use Rattle.lt_locktree.proofs.Grants.{after_by, reply_of}
-use Rattle.lt_locktree.proofs.Questions.{stays}
+use Rattle.lt_locktree.proofs.Unchanged.{stays}
 
 pub who_commits : WhoCommits
 who_commits v tree asked here rows hangs more e named l closed lt interval pass is =

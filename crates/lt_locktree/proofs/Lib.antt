@@ -1,8 +1,9 @@
 pub mod HeldParts
-pub mod Questions
+pub mod Unchanged
 pub mod Grants
 pub mod GrantedRuns
 pub mod DeedLaws
+pub mod Served
 pub mod OwnersLaws
 pub mod PlannedRows
 pub mod DrawnParts

@@ -1,6 +1,7 @@
 pub mod Drawn
 pub mod PlannedParts
 pub mod Given
+pub mod Makes
 pub mod Relaid
 pub mod LawsOfDeeds
 pub mod LawsOfGrants

@@ -1,10 +1,14 @@
 //! What is asked of a tree of shared rows, from what a search holds: each event as the plan that its commit takes.
 #![tactic(auto)]
 
+mod asking;
 mod drawing;
 pub mod laws;
 mod owners;
 mod planning;
+mod questions;
 
+pub use asking::Asking;
 pub use owners::owners_of;
 pub use planning::plan_rows;
+pub use questions::{ask_who, refuse_ask};
