@@ -12,3 +12,4 @@ pub mod Relinks
 pub mod LaidParts
 pub mod PlanLaws
 pub mod MergedPlans
+pub mod RowsInPlace

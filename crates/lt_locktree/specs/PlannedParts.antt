@@ -1,5 +1,5 @@
 -- The plan of a part that is laid anew.
-use Rattle.std.specs.Prelude.{◌≡◌, ◌⊎◌, ℕ, List, [], ◌∷◌, ◌++◌, length, slice_set, Bool, ◌||◌, nat_eq, if◌then◌else◌}
+use Rattle.std.specs.Prelude.{◌≡◌, ◌⊎◌, ℕ, List, [], ◌∷◌, ◌++◌, ◌+◌, length, take, drop, slice_set, Bool, ◌||◌, nat_eq, if◌then◌else◌}
 use Rattle.lt_ranges.specs.Interval.{Interval, before}
 use Rattle.lt_forest.specs.declared.part.PartRow.{PartRow}
 use Rattle.lt_rows.specs.declared.image.RowImage.{RowImage}
@@ -7,6 +7,10 @@ use Rattle.lt_rows.specs.declared.view.View.{View}
 use Rattle.lt_rows.specs.Nodes.{node_of}
 use Rattle.lt_rows.specs.Views.{row_at, words_of}
 use Rattle.lt_locktree.specs.Drawn.{Draws}
+
+-- the row stands at this place of the list
+abbrev pub IsAt : List PartRow → ℕ → PartRow → Type 0
+IsAt rows at r = rows ≡ take at rows ++ r ∷ drop (at + 1) rows
 
 -- the image stands in the plan
 abbrev pub InPlan : RowImage → List RowImage → Type 0

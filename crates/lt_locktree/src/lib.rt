@@ -3,12 +3,14 @@
 
 mod asking;
 mod drawing;
+mod growing;
 pub mod laws;
 mod owners;
 mod planning;
 mod questions;
 
 pub use asking::Asking;
+pub use growing::plan_grown;
 pub use owners::owners_of;
 pub use planning::plan_rows;
 pub use questions::{ask_who, refuse_ask};
