@@ -8,15 +8,16 @@ use Rattle.lt_ranges.specs.Numbers.{is_in}
 use Rattle.lt_seq.specs.declared.event.Event.{Event}
 use Rattle.lt_seq.specs.declared.fault.Fault.{Fault}
 use Rattle.lt_seq.specs.Table.{Setting}
-use Rattle.lt_seq.specs.Yard.{Origin, PassView, place_after, places_end}
+use Rattle.lt_seq.specs.Yard.{Origin, origin_of, PassView, place_after, places_end}
 use Rattle.lt_seq.proofs.NumbersLaws.{AllAbove, Rises, increasing_from}
 use Rattle.lt_trace.specs.declared.line.Line.{Line}
 use Rattle.lt_requests.specs.declared.wish.Wish.{Wish}
 use Rattle.lt_requests.specs.declared.started.Started.{Started}
 use Rattle.lt_requests.specs.Registered.{Ascend, MayAsk, may_ask, is_registered, wish_of as registered_wish, txns_of}
-use Rattle.lt_requests.specs.Started.{IsStarted}
+use Rattle.lt_requests.specs.Started.{IsStarted, Keeps}
 use Rattle.lt_runner.specs.TurnView.{Turn}
 use Rattle.lt_runner.specs.Attempt.{bar_of}
+use Rattle.lt_runner.specs.Notes.{KeepsNotes}
 use Rattle.lt_runner.specs.Plays.{next_wish}
 use Rattle.lt_runner.specs.Serial.{with_turn, wishes_in}
 use Rattle.lt_runner.specs.Steps.{IsSteady, IsFitLine}
@@ -170,3 +171,19 @@ started_is setting txns txn board origin identity wish line lines bar others wis
 
     places : place_after setting old.front + setting.plan.trees + 1 + length wishes ≤ places_end
     places = let k = room_here setting txns txn old.front board room in omega (arith, k, few_wishes next, wide, ap (λ (ws : List Wish). length ws) all)
+
+-- The pass acts alone as before, and has the notes of its joins.
+
+pub table_after : (setting : Setting) (before after : Origin) (identity : List ℕ) (old new : PassView) → HasTable before identity setting old →
+    after ≡ origin_of identity setting → Keeps setting old new → KeepsNotes setting old new → HasTable after identity setting new
+table_after setting before after identity old new table same keeps notes =
+    let goes = keeps.goes table.sound in
+    record {
+      of = same;
+      plan = table.plan;
+      number = goes.number ∙ table.number;
+      right = omega (arith, table.right, keeps.rights);
+      all = keeps.rights ∙ table.all;
+      sound = goes.sound;
+      noted = notes.notes table.all table.noted;
+    }

@@ -1,6 +1,6 @@
 -- What is left at the end of a run.
 use Rattle.std.specs.Global.{Vec}
-use Rattle.std.proofs.Common.{◌≡◌, ℕ, ◌+◌, List, [], ◌∷◌, ◌++◌, Bool, true, ◌==◌, Option, Some, None, is_some, option_map, slice_set, map, length, ◌≤◌, refl, sym, ap, subst, ◌∙◌, arith}
+use Rattle.std.proofs.Common.{◌≡◌, ℕ, ◌+◌, List, [], ◌∷◌, ◌++◌, Bool, true, ◌==◌, Option, Some, None, is_some, option_map, slice_set, get_or, map, length, ◌≤◌, refl, sym, ap, subst, ◌∙◌, arith}
 use Rattle.std.specs.List.{AllByRecursion, filter_map, cons_option}
 use Rattle.std.proofs.lemmas.Bool.Decides.{nat_tests}
 use Rattle.std.proofs.lemmas.List.{length-append, length-map}
@@ -19,6 +19,7 @@ use Rattle.lt_history.specs.declared.outcome.Outcome.{Outcome}
 use Rattle.lt_history.specs.declared.outcome.Ended.{Ended}
 use Rattle.lt_runner.specs.TurnView.{Turn}
 use Rattle.lt_runner.specs.Serial.{Game, game_at, ended_in, played, setting_of, game_of, serial, most_events}
+use Rattle.lt_runner.specs.Notes.{notes_in, run_notes}
 use Rattle.lt_runner.specs.Board.{BoardView, Shows, game_on}
 use Rattle.lt_runner.proofs.FitLaws.{fit_of_trace}
 use Rattle.lt_runner.proofs.FewLaws.{few_events}
@@ -56,11 +57,17 @@ numbers_ended (t ∷ ts) all = by_outcome t.outcome all.0.0 (numbers_ended ts al
 
 -- What the closed table tells.
 
--- the history of the only pass
-pub only_front : {P : Type 0} (view : P → PassView) (passes : List P) (new : P) (count : ℕ) → map view passes ≡ opening_passes count →
-    count ≡ 1 → front_of_first (map view (slice_set passes 0 new)) ≡ (view new).front
-only_front view [] new count is one = let e : [] ≡ opening_passes 1 = is ∙ ap opening_passes one in cc
-only_front view (p ∷ ps) new count is one = refl
+-- the only pass, once it has played
+pub only_pass : {P : Type 0} (view : P → PassView) (passes : List P) (new mid : P) (count : ℕ) → map view passes ≡ opening_passes count →
+    count ≡ 1 → mid ≡ get_or (slice_set passes 0 new) 0 mid → mid ≡ new
+only_pass view [] new mid count is one at = let e : [] ≡ opening_passes 1 = is ∙ ap opening_passes one in cc
+only_pass view (p ∷ ps) new mid count is one at = at
+
+-- its history, once its notes were taken too
+pub only_front : {P : Type 0} (view : P → PassView) (passes : List P) (new last : P) (count : ℕ) → map view passes ≡ opening_passes count →
+    count ≡ 1 → view last ≡ record (view new) { notes = [] } → front_of_first (map view (slice_set (slice_set passes 0 new) 0 last)) ≡ (view new).front
+only_front view [] new last count is one same = let e : [] ≡ opening_passes 1 = is ∙ ap opening_passes one in cc
+only_front view (p ∷ ps) new last count is one same = ap (λ (v : PassView). v.front) same
 
 -- its receipts are all
 pub receipts_are : (setting : Setting) (events : List Event) (passes : List PassView) (closed : Closed) (front : List (Vec Receipt)) (receipts : Vec Receipt) →
@@ -122,3 +129,9 @@ pub few_told : (trace : TraceView) (first places : ℕ) (events : List Event) (b
 few_told trace first places events board is_trace at same =
     let few = few_events trace first (fit_of_trace trace first is_trace) in
     omega (arith, few, same, ap (λ (g : Game). length g.events) at.game_is)
+
+-- and its notes are those of the run
+pub run_notes_are : (trace : TraceView) (first : ℕ) (setting : Setting) (pass : PassView) (board : BoardView) → setting ≡ setting_of trace 1 first →
+    pass.notes ≡ notes_in setting pass.front → IsClosing trace first pass.front board → pass.notes ≡ run_notes trace first
+run_notes_are trace first setting pass board same noted at =
+    noted ∙ ap (λ (s : Setting). notes_in s pass.front) same ∙ ap (λ (g : Game). notes_in (setting_of trace 1 first) g.events) at.game_is

@@ -22,6 +22,7 @@ use Rattle.lt_runner.specs.Seats.{idle, granted_at, with_line}
 use Rattle.lt_runner.specs.Plays.{next_wish}
 use Rattle.lt_runner.specs.Serial.{Game, game_at, turn_of, is_ready, wishes_in, line_move, does}
 use Rattle.lt_runner.specs.Steps.{IsInOrder}
+use Rattle.lt_runner.specs.Notes.{notes_in}
 
 -- what contracts see of a board
 pub record BoardView : Type 0 where
@@ -71,7 +72,7 @@ pub record Shows (setting : Setting) (txns : List ℕ) (events : List Event) (bo
 pub record HasRoom (setting : Setting) (txns : List ℕ) (game : Game) : Type 0 where
   pub places : place_after setting game.events + setting.plan.trees + 1 + length txns ≤ places_end
 
--- the pass is of the table, has number 0 and all the rights, and is sound
+-- the pass is of the table, has number 0 and all the rights, is sound, and has the notes of all joins
 pub record HasTable (origin : Origin) (identity : List ℕ) (setting : Setting) (pass : PassView) : Type 0 where
   pub of : origin ≡ origin_of identity setting
   pub plan : IsPlan setting.plan
@@ -79,6 +80,7 @@ pub record HasTable (origin : Origin) (identity : List ℕ) (setting : Setting) 
   pub right : 1 ≤ pass.rights
   pub all : HasAll setting pass
   pub sound : IsSound setting pass
+  pub noted : pass.notes ≡ notes_in setting pass.front
 
 -- the next of these lines, before the release that it may come to
 abbrev pub moved_at : Setting → ℕ → List Line → Game → Game

@@ -6,6 +6,7 @@ pub mod Turn
 pub mod Attempt
 pub mod Plays
 pub mod Serial
+pub mod Notes
 pub mod PlaysAlone
 pub mod StartsAlone
 pub mod Rows

@@ -9,6 +9,7 @@ ghost use Rattle.lt_runner.specs.Seats.{idle};
 ghost use Rattle.lt_runner.specs.Plays.{line_question};
 ghost use Rattle.lt_runner.specs.PlaysOn.{IsAskDeed, IsReady, IsFit, IsNext, IsNextLine, IsNextFree};
 ghost use Rattle.lt_runner.specs.PlaysOn.{IsKept, PlaysOn, UnlessShort, IsMoved, moved_to};
+ghost use Rattle.lt_runner.specs.Notes.{KeepsNotes};
 ghost use Rattle.lt_runner.specs.PlaysAlone.{IsCaused, IsAtOnce, IsFreedAtOnce, MayPlayAtOnce};
 
 use crate::release::Release;
@@ -74,6 +75,7 @@ impl Turn {
         requires asks { line_question line.now.deed ≡ Some (Ask tree range.now Granted) }
         ensures of { Y.Pass.origin pass.new ≡ origin_of (Y.identity yard.now) (Y.setting yard.now) }
         ensures kept { IsKept (Y.setting yard.now) (Y.Pass.view pass.old) (Y.Pass.view pass.new) }
+        ensures noted { KeepsNotes (Y.setting yard.now) (Y.Pass.view pass.old) (Y.Pass.view pass.new) }
         ensures fit { UnlessShort result (IsFit (Y.setting yard.now) self.new) }
         ensures plays { UnlessShort result (PlaysOn (Y.setting yard.now) [] (Y.Pass.view pass.old) (Y.Pass.view pass.new)
             self.old self.new) }
@@ -100,6 +102,7 @@ impl Turn {
     }
 
     /// Joins the runs of neighbours in a tree, at an `escalate` line.
+    #[tactic(auto, using(crate::proofs::NoteLaws::answers_notes))]
     fn escalate<Y: Yard>(
         &mut self,
         yard: &Y,
@@ -115,6 +118,7 @@ impl Turn {
         requires deed { line.now.deed ≡ Escalate tree }
         ensures of { Y.Pass.origin pass.new ≡ origin_of (Y.identity yard.now) (Y.setting yard.now) }
         ensures kept { IsKept (Y.setting yard.now) (Y.Pass.view pass.old) (Y.Pass.view pass.new) }
+        ensures noted { KeepsNotes (Y.setting yard.now) (Y.Pass.view pass.old) (Y.Pass.view pass.new) }
         ensures fit { UnlessShort result (IsFit (Y.setting yard.now) self.new) }
         ensures plays { UnlessShort result (PlaysOn (Y.setting yard.now) [] (Y.Pass.view pass.old) (Y.Pass.view pass.new)
             self.old self.new) }
@@ -144,6 +148,7 @@ impl Turn {
         requires line { IsNextLine self.old line.now }
         ensures of { Y.Pass.origin pass.new ≡ origin_of (Y.identity yard.now) (Y.setting yard.now) }
         ensures kept { IsKept (Y.setting yard.now) (Y.Pass.view pass.old) (Y.Pass.view pass.new) }
+        ensures noted { KeepsNotes (Y.setting yard.now) (Y.Pass.view pass.old) (Y.Pass.view pass.new) }
         ensures fit { UnlessShort result (IsFit (Y.setting yard.now) self.new) }
         ensures plays { UnlessShort result (PlaysOn (Y.setting yard.now) [] (Y.Pass.view pass.old) (Y.Pass.view pass.new)
             self.old self.new) }
@@ -172,6 +177,7 @@ impl Turn {
     }
 
     /// Makes the next free of its release.
+    #[tactic(auto, using(crate::proofs::NoteLaws::answers_notes))]
     fn free<Y: Yard>(
         &mut self,
         yard: &Y,
@@ -186,6 +192,7 @@ impl Turn {
         requires release { IsNextFree self.old release.now }
         ensures of { Y.Pass.origin pass.new ≡ origin_of (Y.identity yard.now) (Y.setting yard.now) }
         ensures kept { IsKept (Y.setting yard.now) (Y.Pass.view pass.old) (Y.Pass.view pass.new) }
+        ensures noted { KeepsNotes (Y.setting yard.now) (Y.Pass.view pass.old) (Y.Pass.view pass.new) }
         ensures fit { UnlessShort result (IsFit (Y.setting yard.now) self.new) }
         ensures plays { UnlessShort result (PlaysOn (Y.setting yard.now) [] (Y.Pass.view pass.old) (Y.Pass.view pass.new)
             self.old self.new) }
@@ -218,6 +225,7 @@ impl Turn {
         requires ended { IsTrue (is_some self.old.turn.outcome) }
         ensures of { Y.Pass.origin pass.new ≡ origin_of (Y.identity yard.now) (Y.setting yard.now) }
         ensures kept { IsKept (Y.setting yard.now) (Y.Pass.view pass.old) (Y.Pass.view pass.new) }
+        ensures noted { KeepsNotes (Y.setting yard.now) (Y.Pass.view pass.old) (Y.Pass.view pass.new) }
         ensures fit { UnlessShort result (IsFit (Y.setting yard.now) self.new) }
         ensures plays { UnlessShort result (PlaysOn (Y.setting yard.now) [] (Y.Pass.view pass.old) (Y.Pass.view pass.new)
             self.old self.new) }
@@ -254,6 +262,7 @@ impl Turn {
         requires left { self.old.turn.outcome ≡ None → self.old.turn.lines ≢ [] }
         ensures of { Y.Pass.origin pass.new ≡ origin_of (Y.identity yard.now) (Y.setting yard.now) }
         ensures kept { IsKept (Y.setting yard.now) (Y.Pass.view pass.old) (Y.Pass.view pass.new) }
+        ensures noted { KeepsNotes (Y.setting yard.now) (Y.Pass.view pass.old) (Y.Pass.view pass.new) }
         ensures fit { UnlessShort result (IsFit (Y.setting yard.now) self.new) }
         ensures plays { UnlessShort result (PlaysOn (Y.setting yard.now) [] (Y.Pass.view pass.old) (Y.Pass.view pass.new)
             self.old self.new) }

@@ -1,16 +1,19 @@
 //! The plain scheduler.
-ghost use Rattle.std.specs.Prelude.{◌≡◌, ◌≤◌, ◌^◌, [], map, IfOk};
+ghost use Rattle.std.specs.Prelude.{◌≡◌, ◌≤◌, ◌^◌, [], map, IfOk, OnOk, OnErr};
 ghost use Rattle.std.specs.List.{AllByRecursion};
 ghost use Rattle.lt_trace.specs.Grammar.{txns_of};
 ghost use Rattle.lt_runner.specs.Serial.{most_events, played, plan_of, serial};
 ghost use Rattle.lt_runner.specs.Steps.{IsFit};
-ghost use Rattle.lt_runner.specs.Transcript.{Tells};
+ghost use Rattle.lt_watch.specs.Tellings.{after_notes};
+ghost use Rattle.lt_runner.specs.Transcript.{Tells as TellsRun};
+ghost use Rattle.lt_runner.specs.Notes.{run_notes};
 ghost use Rattle.lt_runner.specs.Board.{HasTable, Shows, HasRoom};
 
 use crate::board::Board;
 use crate::transcript::Transcript;
 use lt_seq::{Closed, Pass, Yard, YardPlan};
 use lt_trace::{Line, Trace};
+use lt_watch::{Tells, tell_notes};
 use std::alloc::{AllocError, Global};
 use std::collections::BTreeSet;
 
@@ -67,21 +70,28 @@ fn plan_of(trace: &Trace, first: u64) -> YardPlan
 ///
 /// The first event has the place `first`. That is at most 2^38, and a run makes few events, so that no look of the run
 /// shows a full history. The table need serve one pass alone. The only error is want of memory.
-pub fn run_serial<Y: Yard>(
+///
+/// Each watch is told the joins of the run once, by place, but for those that do not fit into it. After want of memory none
+/// is told any.
+pub fn run_serial<Y: Yard, T: Tells>(
     alloc: Global,
     trace: &Trace,
     first: u64,
+    watch: &mut T,
 ) -> Result<Transcript, AllocError>
     requires first { first ≤ 2 ^ 38 }
     requires passes { 1 ≤ Y.MOST_PASSES }
-    ensures serial { IfOk result (Tells (serial trace.now first)) }
+    ensures serial { IfOk result (TellsRun (serial trace.now first)) }
     ensures played_to_end { IfOk result (λ transcript. map (λ ended. ended.txn) transcript.outcomes.items ≡ txns_of trace.now.lines) }
     ensures few { IfOk result (λ transcript. transcript.places ≤ most_events trace.now) }
+    ensures told { OnOk result (T.logs watch.new ≡ map (after_notes (run_notes trace.now first)) (T.logs watch.old)) }
+    ensures untold { OnErr result (watch.new ≡ watch.old) }
 {
     let plan = plan_of(trace, first);
     let lines = trace.lines();
     let (yard, mut passes) = Y::build(alloc, &plan)?;
     let board = play_trace(alloc, &yard, &mut passes[0], lines, plan.trees)?;
+    let notes = yard.take_notes(&mut passes[0]);
     let Closed {
         mut lists,
         places,
@@ -92,6 +102,7 @@ pub fn run_serial<Y: Yard>(
         unreachable!();
     };
     let outcomes = board.into_outcomes()?;
+    tell_notes(watch, &notes);
     Ok(Transcript {
         receipts,
         outcomes,

@@ -6,6 +6,7 @@ use lt_history::print;
 use lt_ranges::KeyRange;
 use lt_seq::{SeqYard, Yard, YardPlan};
 use lt_trace::LineDeed;
+use lt_watch::Watchers;
 use std::alloc::Global;
 use std::test::Fail;
 
@@ -14,7 +15,7 @@ fn transcript(alloc: Global, trace: &[u8], first: u64) -> Result<Vec<u8>, Fail>
     requires { first ≤ 2 ^ 38 }
 {
     let trace = lt_trace::read(alloc, trace)?;
-    let run = run_serial::<SeqYard>(alloc, &trace, first)?;
+    let run = run_serial::<SeqYard, Watchers>(alloc, &trace, first, &mut Watchers::new(alloc))?;
     Ok(print(alloc, &run.receipts, &run.outcomes, run.places, run.used)?)
 }
 

@@ -6,7 +6,8 @@ use Rattle.lt_runner.specs.Board.{BoardView, IsTaken, numbers_on, turn_on}
 use Rattle.lt_runner.proofs.SteadyLaws.{waits_goes}
 use Rattle.lt_runner.proofs.SweepingLaws.{lock_wish}
 use Rattle.lt_runner.proofs.LockMoveLaws.{has_lock, locking, steady_on, left_retry, waiting_retry, answer_shows, answer_for}
-use Rattle.lt_runner.proofs.AskLaws.{registered_is, is_there, may_on, started_is}
+use Rattle.lt_runner.proofs.AskLaws.{registered_is, is_there, may_on, started_is, table_after}
+use Rattle.lt_runner.proofs.NoteLaws.{started_notes}
 use Rattle.lt_runner.proofs.board.Board.retry_line.Goals as goal
 
 pub retry-started-requires-clause-there : goal.retry-started-requires-clause-there
@@ -81,3 +82,22 @@ returns-clause-comes g c =
     (λ (taken : IsTaken txn started mid c.take_answer.new.self).
     answer_shows setting txns txn old.front new.front board mid c.take_answer.new.self wish has.line has.rest left started at (ap (λ (b : BoardView). record b { registry = left }) c.self.view_is) made so taken)
     c.take_answer.ensures
+
+pub returns-clause-acts : goal.returns-clause-acts
+returns-clause-acts g c =
+    let setting = g.Y.Yard.setting c.args.yard.now in
+    let view = g.Y.Pass.Pass.view in
+    let old = view c.args.pass.now in
+    let new = view c.retry-started.new.pass in
+    let board = c.args.self.now in
+    let txns = numbers_on board in
+    let txn = c.args.txn in
+    let registry = c.self.inside.registry in
+    let turn = turn_on setting txn board in
+    let steady = steady_on setting txns txn old.front board c.requires.board c.requires.number in
+    let found = lock_wish turn.txn turn.lines (steady.held c.requires.waits) in
+    let wish = found.0 in
+    let registry_is : registry ≡ board.registry = ap (λ (b : BoardView). b.registry) c.self.view_is in
+    let answer = c.retry-started.ensures.answer wish (registered_is setting txns txn old.front board wish registry c.requires.board c.requires.number registry_is c.requires.waits found.1) in
+    table_after setting (g.Y.Pass.Pass.origin c.args.pass.now) (g.Y.Pass.Pass.origin c.retry-started.new.pass) (g.Y.Yard.identity c.args.yard.now) old new c.requires.acts c.retry-started.ensures.of c.retry-started.ensures.keeps
+    (started_notes setting _ wish (without txn registry) registry registry old new c.retry-started.new.registry c.retry-started.result answer)

@@ -6,7 +6,8 @@ use Rattle.lt_runner.specs.Board.{BoardView, IsTaken, numbers_on, turn_on}
 use Rattle.lt_runner.proofs.SteadyLaws.{ready_goes}
 use Rattle.lt_runner.proofs.SeatMoveLaws.{ready_quiet, has_number}
 use Rattle.lt_runner.proofs.LockMoveLaws.{has_lock, locking, steady_on, txn_is, left_start, waiting_start, answer_shows, answer_for}
-use Rattle.lt_runner.proofs.AskLaws.{not_registered, may_be_asked, may_on, started_is}
+use Rattle.lt_runner.proofs.AskLaws.{not_registered, may_be_asked, may_on, started_is, table_after}
+use Rattle.lt_runner.proofs.NoteLaws.{started_notes}
 use Rattle.lt_runner.proofs.board.Board.start_line.Goals as goal
 
 pub start-started-requires-clause-absent : goal.start-started-requires-clause-absent
@@ -88,3 +89,14 @@ returns-clause-comes g c =
     (λ (taken : IsTaken txn started mid c.take_answer.new.self).
     answer_shows setting txns txn old.front new.front board mid c.take_answer.new.self wish has.line has.rest left started at (ap (λ (b : BoardView). record b { registry = left }) c.self.view_is) made so taken)
     c.take_answer.ensures
+
+pub returns-clause-acts : goal.returns-clause-acts
+returns-clause-acts g c =
+    let setting = g.Y.Yard.setting c.args.yard.now in
+    let view = g.Y.Pass.Pass.view in
+    let old = view c.args.pass.now in
+    let new = view c.start-started.new.pass in
+    let wish = c.args.wish.now in
+    let registry = c.self.inside.registry in
+    table_after setting (g.Y.Pass.Pass.origin c.args.pass.now) (g.Y.Pass.Pass.origin c.start-started.new.pass) (g.Y.Yard.identity c.args.yard.now) old new c.requires.acts c.start-started.ensures.of c.start-started.ensures.keeps
+    (started_notes setting _ wish registry (with_wish wish registry) registry old new c.start-started.new.registry c.start-started.result c.start-started.ensures.answer)

@@ -11,6 +11,7 @@ use Rattle.lt_runner.specs.Attempt.{bar_of}
 use Rattle.lt_runner.specs.Seats.{idle}
 use Rattle.lt_runner.specs.PlaysOn.{IsFit, IsNextAsk, PlaysOn}
 use Rattle.lt_runner.specs.PlaysAlone.{IsPlayedAtOnce}
+use Rattle.lt_runner.proofs.NoteLaws.{asks_notes}
 use Rattle.lt_runner.proofs.PlayMoveLaws.{asked_at_once, stopped_at_once, ask_not_refused, is_caused_by_ask}
 use Rattle.lt_runner.proofs.PlaysOnLaws.{plays_asked, plays_stopped, ask_refused, answer_of, fit_ended}
 use Rattle.lt_runner.proofs.turn.Turn.ask.Goals as goal
@@ -165,3 +166,38 @@ returns-in-Err-HistoryFull-clause-alone g c =
     let answers = subst (AskAnswers setting (bar_of setting seat.turn) old new seat.turn.txn (Ask tree range Granted)) result_is
     (answer_of setting old new seat c.number.result c.is_big.result (Ask tree range Granted) c.ask.result c.number.ensures c.is_big.ensures c.ask.ensures.answer) in
     λ may. ask_not_refused setting old new seat c.give_way-in-Err-HistoryFull.new.self (Ask tree range Granted) (HistoryFull full.place) may answers (λ place rows e. cc)
+
+pub returns-in_err-replied-in-Ok-clause-noted : goal.returns-in_err-replied-in-Ok-clause-noted
+returns-in_err-replied-in-Ok-clause-noted g c =
+    let setting = g.Y.Yard.setting c.args.yard.now in
+    asks_notes setting _ (g.Y.Pass.Pass.view c.args.pass.now) (g.Y.Pass.Pass.view c.ask.new.pass) c.number.result _ c.ask.result c.ask.ensures.answer
+
+pub returns-in_err-end_as-in-Err-OutOfLocks-clause-noted : goal.returns-in_err-end_as-in-Err-OutOfLocks-clause-noted
+returns-in_err-end_as-in-Err-OutOfLocks-clause-noted g c =
+    let setting = g.Y.Yard.setting c.args.yard.now in
+    asks_notes setting _ (g.Y.Pass.Pass.view c.args.pass.now) (g.Y.Pass.Pass.view c.ask.new.pass) c.number.result _ c.ask.result c.ask.ensures.answer
+
+pub returns-in_ok-replied-in-Ok-clause-noted : goal.returns-in_ok-replied-in-Ok-clause-noted
+returns-in_ok-replied-in-Ok-clause-noted g c =
+    let setting = g.Y.Yard.setting c.args.yard.now in
+    asks_notes setting _ (g.Y.Pass.Pass.view c.args.pass.now) (g.Y.Pass.Pass.view c.ask.new.pass) c.number.result _ c.ask.result c.ask.ensures.answer
+
+pub returns-in_ok-end_as-in-Err-OutOfLocks-clause-noted : goal.returns-in_ok-end_as-in-Err-OutOfLocks-clause-noted
+returns-in_ok-end_as-in-Err-OutOfLocks-clause-noted g c =
+    let setting = g.Y.Yard.setting c.args.yard.now in
+    asks_notes setting _ (g.Y.Pass.Pass.view c.args.pass.now) (g.Y.Pass.Pass.view c.ask.new.pass) c.number.result _ c.ask.result c.ask.ensures.answer
+
+pub returns-in-Err-OutOfMemory-clause-noted : goal.returns-in-Err-OutOfMemory-clause-noted
+returns-in-Err-OutOfMemory-clause-noted g c =
+    let setting = g.Y.Yard.setting c.args.yard.now in
+    asks_notes setting _ (g.Y.Pass.Pass.view c.args.pass.now) (g.Y.Pass.Pass.view c.ask.new.pass) c.number.result _ c.ask.result c.ask.ensures.answer
+
+pub returns-in-Err-HistoryFull-clause-noted : goal.returns-in-Err-HistoryFull-clause-noted
+returns-in-Err-HistoryFull-clause-noted g c =
+    let setting = g.Y.Yard.setting c.args.yard.now in
+    asks_notes setting _ (g.Y.Pass.Pass.view c.args.pass.now) (g.Y.Pass.Pass.view c.ask.new.pass) c.number.result _ c.ask.result c.ask.ensures.answer
+
+pub returns-in-Err-Busy-clause-noted : goal.returns-in-Err-Busy-clause-noted
+returns-in-Err-Busy-clause-noted g c =
+    let setting = g.Y.Yard.setting c.args.yard.now in
+    asks_notes setting _ (g.Y.Pass.Pass.view c.args.pass.now) (g.Y.Pass.Pass.view c.ask.new.pass) c.number.result _ c.ask.result c.ask.ensures.answer

@@ -5,6 +5,7 @@ use Rattle.lt_runner.specs.Turn.{rest_of_release}
 use Rattle.lt_runner.specs.PlaysOn.{IsFit, PlaysOn, UnlessShort}
 use Rattle.lt_runner.proofs.PlaysOnLaws.{plays_not, plays_then, ready_still, unless_then, length_rest}
 use Rattle.lt_runner.specs.PlaysAlone.{IsCaused, IsFreedAtOnce}
+use Rattle.lt_runner.proofs.NoteLaws.{keeps_notes_itself, keeps_notes_then}
 use Rattle.lt_runner.proofs.PlayMoveLaws.{is_caused_since, with_rest, may_still}
 use Rattle.lt_runner.proofs.turn.Turn.release.Goals as goal
 
@@ -20,6 +21,7 @@ loop-free-init g c =
       plays = plays_not setting [] (g.Y.Pass.Pass.view c.args.pass.now) c.args.self.now c.requires.ready.sound;
       free = λ e. e;
       listed = refl;
+      noted = keeps_notes_itself setting (g.Y.Pass.Pass.view c.args.pass.now) (g.Y.Pass.Pass.view c.args.pass.now) refl;
       alone = λ may. (may, refl);
     }
 
@@ -66,6 +68,7 @@ loop-free-preserved g c =
       plays = plays_then setting [] old before new was between is i.plays plays;
       free = λ e. ap (λ (s : Seat). s.busy) freed;
       listed = ap (λ (s : Seat). s.listed) freed ∙ i.listed;
+      noted = keeps_notes_then setting old before new i.noted c.free.ensures.noted;
       alone = λ may.
           let some = c.in-Some.ensures.some in
           let here = i.alone may in
@@ -85,3 +88,9 @@ returns-in-Err-clause-caused g c =
     let before = view c.loop-free.pass in
     let new = view c.free.new.pass in
     is_caused_since setting (view c.args.pass.now) before new fault i.plays.goes i.plays.rights (subst (IsCaused setting before new) c.in-Err.is c.free.ensures.caused)
+
+pub returns-in-Err-clause-noted : goal.returns-in-Err-clause-noted
+returns-in-Err-clause-noted g c =
+    let setting = g.Y.Yard.setting c.args.yard.now in
+    let view = g.Y.Pass.Pass.view in
+    keeps_notes_then setting (view c.args.pass.now) (view c.loop-free.pass) (view c.free.new.pass) c.loop-free.invariant.noted c.free.ensures.noted

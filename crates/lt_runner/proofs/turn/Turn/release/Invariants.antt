@@ -1,5 +1,6 @@
 use Rattle.std.proofs.Common.{◌≡◌, ◌+◌, [], length, false}
 use Rattle.lt_seq.specs.Yard.{origin_of}
+use Rattle.lt_runner.specs.Notes.{KeepsNotes}
 use Rattle.lt_runner.specs.PlaysOn.{IsReady, IsFit, PlaysOn}
 use Rattle.lt_runner.specs.PlaysAlone.{MayPlayAtOnce, with_frees}
 use Rattle.lt_runner.proofs.turn.Turn.release.Given as goal
@@ -18,6 +19,7 @@ invariant-loop-free g l =
       plays : PlaysOn setting [] (view l.fn.pass) (view l.pass) l.fn.self l.self;
       free : l.fn.self.busy ≡ false → l.self.busy ≡ false;
       listed : l.self.listed ≡ l.fn.self.listed;
+      noted : KeepsNotes setting (view l.fn.pass) (view l.pass);
       alone : MayPlayAtOnce setting (view l.fn.pass) l.fn.self.turn → MayPlayAtOnce setting (view l.pass) l.self.turn
           × (with_frees setting l.self.turn.txn l.self.turn.releases (view l.pass).front ≡ with_frees setting l.fn.self.turn.txn l.fn.self.turn.releases (view l.fn.pass).front);
     }
