@@ -4,6 +4,8 @@
 mod failed;
 mod mem_sink;
 mod mem_source;
+mod no_fail_sink;
+mod no_fail_source;
 mod piece;
 mod read_source;
 mod reading;
@@ -15,6 +17,8 @@ mod writing;
 pub use failed::Failed;
 pub use mem_sink::MemSink;
 pub use mem_source::MemSource;
+pub use no_fail_sink::NoFailSink;
+pub use no_fail_source::NoFailSource;
 pub use read_source::ReadSource;
 pub use reading::{ReadFault, read_all};
 pub use sink::Sink;

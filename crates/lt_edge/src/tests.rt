@@ -1,7 +1,8 @@
 //! What no clause says: that the calls succeed where memory is ample, how much each put is lent, and what std's
 //! readers and writers do behind the two adapters.
 use crate::{
-    Failed, MemSink, MemSource, ReadFault, ReadSource, Sink, Source, WriteSink, put_all, read_all,
+    Failed, MemSink, MemSource, NoFailSink, NoFailSource, ReadFault, ReadSource, Sink, Source,
+    WriteSink, put_all, read_all,
 };
 use std::test::Fail;
 
@@ -76,5 +77,20 @@ fn std_readers_and_writers_serve(rt: HostRuntime) -> Result<(), Fail> {
     assert_eq!(rt; put_all(&mut sink, &first), Ok(()));
     assert_eq!(rt; put_all(&mut sink, &rest), Err(Failed));
     assert_eq!(rt; room.as_slice(), b"range l".as_slice());
+    Ok(())
+}
+
+#[test]
+fn ends_that_never_fail_give_and_take_all(rt: HostRuntime) -> Result<(), Fail> {
+    let alloc = rt.alloc();
+    let mut source = NoFailSource::new(b"range locks".to_vec(alloc)?);
+    let mut sink = NoFailSink::new();
+    assert_eq!(rt; sink.put(b"abcd"), Ok(4));
+    assert_eq!(rt; sink.taken(), 4);
+    let text = read_all(alloc, &mut source, 100)?;
+    assert_eq!(rt; text.as_slice(), b"range locks".as_slice());
+    assert_eq!(rt; source.next(&mut [0u8; 2]), Ok(0));
+    assert_eq!(rt; put_all(&mut sink, &text), Ok(()));
+    assert_eq!(rt; sink.taken(), 15);
     Ok(())
 }
