@@ -1,5 +1,6 @@
 -- What the statuses say, from what was read and what was answered.
-use Rattle.std.proofs.Common.{◌≡◌, ◌≢◌, ◌⊎◌, ⊎_elim, ◌∷◌, ◌++◌, ◌<◌, ℕ, List, [], length, take, drop, Some, None, IfSome, inl, inr, arith, subst, sym, ◌∙◌, ap, refl, Contains}
+use Rattle.std.specs.Global.{Vec}
+use Rattle.std.proofs.Common.{◌≡◌, ◌≢◌, ◌⊎◌, ⊎_elim, ◌∷◌, ◌++◌, ◌<◌, ℕ, zero, suc, List, [], length, take, drop, Some, None, IfSome, Result, Ok, Err, IfOk, IsOk, inl, inr, arith, subst, sym, ◌∙◌, ap, refl, Contains}
 use Rattle.std.proofs.lemmas.Bool.{cases_lt}
 use Rattle.std.proofs.lemmas.List.{take_all, length-take, take-append-drop}
 use Rattle.std.specs.declared.option.Option.{Option}
@@ -10,15 +11,18 @@ use Rattle.lt_trace.specs.Trace.{TraceView}
 use Rattle.lt_trace.specs.Grammar.{deciding_bytes, IsTrace, Spells, IsFirstFault, Refuses as IsRefused}
 use Rattle.lt_trace.specs.declared.fault.TraceFault.{TraceFault}
 use Rattle.lt_trace.specs.declared.fault.TraceFault.TheVariants as fault
-use Rattle.lt_trace.proofs.FaultLaws.{spelled_not_refused}
+use Rattle.lt_trace.proofs.FaultLaws.{spelled_not_refused, one_trace}
 use Rattle.lt_trace.proofs.LengthLaws.{first_bytes_decide, traces_are_short}
-use Rattle.lt_program.specs.Words.{IsCommand}
-use Rattle.lt_program.specs.Answers.{IsText, IsTextOfRun, IsAnswer, status_of, bytes_of}
-use Rattle.lt_program.specs.Statuses.{ReadsEnough, IsNoTrace, Works, Refuses, Breaks, IsComplete}
+use Rattle.lt_watch.specs.Tellings.{Log}
+use Rattle.lt_runner.specs.Serial.{serial, ran_text}
+use Rattle.lt_program.specs.Answers.{IsTextOfRun, IsAnswer, HasTold, IsToldBy, IsToldOrNot, status_of, bytes_of, sum_text}
+use Rattle.lt_program.specs.Words.{IsCommand, IsNoCommand, AreMakers}
+use Rattle.lt_program.specs.Statuses.{ReadsEnough, IsNoTrace, Plays, Refuses, BreaksOff, TellsOrNot, PlaysOrRefuses, Breaks, IsComplete}
+use Rattle.lt_program.specs.declared.words.Recipe.{Recipe}
+use Rattle.lt_program.specs.declared.words.Command.{Command}
+use Rattle.lt_program.specs.declared.words.Command.TheVariants.{Serial, Make, Sum}
 use Rattle.lt_program.specs.declared.answer.Answer.{Answer}
 use Rattle.lt_program.specs.declared.answer.Answer.TheVariants.{Text, Refusal}
-use Rattle.lt_program.specs.declared.words.Command.{Command}
-use Rattle.lt_program.specs.declared.words.Command.TheVariants.{Serial}
 
 -- a fault that is no want of memory is the first one
 pub refused_first : (bytes : List ℕ) (f : TraceFault) → f ≢ fault.OutOfMemory → IsRefused bytes f → IsFirstFault bytes f
@@ -57,68 +61,106 @@ all_no_trace : (left : Option (List ℕ)) (bytes : List ℕ) (f : TraceFault) �
 all_no_trace None bytes f reads first = tt
 all_no_trace (Some all) bytes f reads first = no_trace all f (first_fault_of_all all bytes f (reads all refl) first)
 
--- the command's text is that of a run
-text_of_run : (command : Command) (trace : TraceView) (text : List ℕ) → IsTrace trace → IsText command trace text → IsTextOfRun command trace text
-text_of_run Serial trace text good is =
-    let P : List ℕ → Type 0 = λ t. IsTextOfRun Serial trace t in subst P (sym is) (serial_text trace 0 good)
+-- the plain scheduler's text is that of a run
+text_of_run : (trace : TraceView) (text : List ℕ) → IsTrace trace → text ≡ ran_text (serial trace 0) → IsTextOfRun trace text
+text_of_run trace text good is =
+    let P : List ℕ → Type 0 = λ t. IsTextOfRun trace t in subst P (sym is) (serial_text trace 0 good)
 
 -- no other status comes of writing
-pub only_status : (status : ℕ) (a : Answer) → (status ≡ status_of a) ⊎ (status ≡ 5) → Contains (0 ∷ 2 ∷ 3 ∷ 4 ∷ 5 ∷ 6 ∷ []) status
+pub only_status : (status : ℕ) (a : Answer) → (status ≡ status_of a) ⊎ (status ≡ 5) → Contains (0 ∷ 3 ∷ 4 ∷ 5 ∷ 6 ∷ []) status
 only_status status (Text text) (inl s) = (0, omega arith, sym s)
-only_status status (Refusal line) (inl s) = (2, omega arith, sym s)
-only_status status a (inr s) = (4, omega arith, sym s)
+only_status status (Refusal line) (inl s) = (1, omega arith, sym s)
+only_status status a (inr s) = (3, omega arith, sym s)
 
-module _ (words : List (List ℕ)) (left rest : Option (List ℕ)) (status : ℕ) (command : Command) (bytes : List ℕ)
-    (form : IsCommand words command) (read : ReadsEnough left rest bytes) where
-  pub completes : (a : Answer) → IsAnswer command bytes a → (status ≡ status_of a) ⊎ (status ≡ 5) → status ≢ 5 → IsComplete words left status
+module _ (left rest : Option (List ℕ)) (status : ℕ) (bytes : List ℕ) (read : ReadsEnough left rest bytes) where
+  pub completes : (a : Answer) → IsAnswer bytes a → (status ≡ status_of a) ⊎ (status ≡ 5) → status ≢ 5 → PlaysOrRefuses left status
   completes (Text text) is (inl s) five = record {
-    trace = λ other all t said told spelled. inl s;
-    no_trace = λ other all said told none.
+    trace = λ all t told spelled. inl s;
+    no_trace = λ all told none.
         absurd (none is.0 (let P : List ℕ → Type 0 = λ b. Spells b is.0 in
         subst P (take_short deciding_bytes all bytes (read.bytes_read all told) (traces_are_short bytes is.0 is.1)) is.1));
   }
   completes (Refusal line) is (inl s) five = record {
-    trace = λ other all t said told spelled.
+    trace = λ all t told spelled.
         let short = traces_are_short all t spelled in
         let same : bytes ≡ all = read.bytes_read all told ∙ take_all deciding_bytes all (omega arith) in
         absurd (spelled_not_refused bytes t is.0 (let P : List ℕ → Type 0 = λ b. Spells b t in subst P (sym same) spelled) is.1);
-    no_trace = λ other all said told none. inl s;
+    no_trace = λ all told none. inl s;
   }
   completes a is (inr s) five = absurd (five s)
 
-module _ (words : List (List ℕ)) (left rest before after : Option (List ℕ)) (status : ℕ) (command : Command) (bytes : List ℕ)
-    (form : IsCommand words command) (read : ReadsEnough left rest bytes) where
-  pub works : (a : Answer) → IsAnswer command bytes a → (length bytes < deciding_bytes → IsAtEnd rest) → (status ≡ status_of a) ⊎ (status ≡ 5)
-      → (status ≢ 5 → Appends before after (bytes_of a)) → status ≡ 0 → Works words left rest before after
-  works (Text text) is end s all done = record {
-    command = command;
+  -- a refusal tells nothing
+  pub untold : (a : Answer) (before now : List Log) → IsToldBy bytes a before now → (status ≡ status_of a) ⊎ (status ≡ 5) → (status ≡ 3) ⊎ (status ≡ 4) → now ≡ before
+  untold (Text text) before now told (inl s) (inl e) = absurd (omega arith)
+  untold (Text text) before now told (inl s) (inr e) = absurd (omega arith)
+  untold (Refusal line) before now told s e = told
+  untold (Text text) before now told (inr s) (inl e) = absurd (omega arith)
+  untold (Text text) before now told (inr s) (inr e) = absurd (omega arith)
+
+  pub told_or_not : (a : Answer) (before now : List Log) → IsToldBy bytes a before now → TellsOrNot left before now
+  told_or_not (Text text) before now told = inr (record { bytes = bytes; read = read.bytes_read; run = told })
+  told_or_not (Refusal line) before now told = inl told
+
+  pub short_told : (before now : List Log) → IsToldOrNot bytes before now → TellsOrNot left before now
+  short_told before now (inl same) = inl same
+  short_told before now (inr told) = inr (record { bytes = bytes; read = read.bytes_read; run = told })
+
+module _ (left rest before after : Option (List ℕ)) (status : ℕ) (bytes : List ℕ) (read : ReadsEnough left rest bytes) where
+  pub plays : (a : Answer) (untold told : List Log) → IsAnswer bytes a → IsToldBy bytes a untold told → (length bytes < deciding_bytes → IsAtEnd rest)
+      → (status ≡ status_of a) ⊎ (status ≡ 5) → (status ≢ 5 → Appends before after (bytes_of a)) → status ≡ 0 → Plays left rest before after untold told
+  plays (Text text) untold told is tells end s all done = record {
     bytes = bytes;
     trace = is.0;
     text = text.items;
-    form = form;
     read = record { read = read.read; end = end (traces_are_short bytes is.0 is.1) };
     spelled = is.1;
     work = is.2;
-    run = text_of_run command is.0 text.items is.1.0 is.2;
+    run = text_of_run is.0 text.items is.1.0 is.2;
     written = all (λ five. omega arith);
+    watched = subst (λ t. HasTold t untold told) (one_trace bytes tells.trace is.0 tells.spelled is.1) tells.told;
   }
-  works (Refusal line) is end (inl s) all done = absurd (omega arith)
-  works (Refusal line) is end (inr s) all done = absurd (omega arith)
+  plays (Refusal line) untold told is tells end (inl s) all done = absurd (omega arith)
+  plays (Refusal line) untold told is tells end (inr s) all done = absurd (omega arith)
 
-  pub refuses : (a : Answer) → IsAnswer command bytes a → (status ≡ status_of a) ⊎ (status ≡ 5)
-      → (status ≢ 5 → Appends before after (bytes_of a)) → status ≡ 3 → Refuses words left rest before after
+  pub refuses : (a : Answer) → IsAnswer bytes a → (status ≡ status_of a) ⊎ (status ≡ 5)
+      → (status ≢ 5 → Appends before after (bytes_of a)) → status ≡ 3 → Refuses left rest before after
   refuses (Text text) is (inl s) all done = absurd (omega arith)
   refuses (Text text) is (inr s) all done = absurd (omega arith)
   refuses (Refusal line) is s all done = record {
-    command = command;
     bytes = bytes;
     fault = is.0;
-    form = form;
     read = read;
     wrong = no_trace bytes is.0 is.1;
     all_wrong = all_no_trace left bytes is.0 read.bytes_read is.1;
     written = (let P : List ℕ → Type 0 = λ t. Appends before after t in subst P is.2 (all (λ five. omega arith)));
   }
 
-  pub breaks : (a : Answer) → IsAnswer command bytes a → AppendsPart before after (bytes_of a) → Breaks words left rest before after
-  breaks a is part = record { command = command; bytes = bytes; answer = a; form = form; read = read; right = is; written = part }
+  pub breaks : (a : Answer) → IsAnswer bytes a → AppendsPart before after (bytes_of a) → BreaksOff left rest before after
+  breaks a is part = record { bytes = bytes; answer = a; read = read; right = is; written = part }
+
+-- Of all commands.
+
+-- what comes of playing, or of giving a text, is a status
+pub only_played : (status : ℕ) → Contains (0 ∷ 3 ∷ 4 ∷ 5 ∷ 6 ∷ []) status → Contains (0 ∷ 2 ∷ 3 ∷ 4 ∷ 5 ∷ 6 ∷ []) status
+only_played status (zero, within, at) = (0, omega arith, at)
+only_played status (suc n, within, at) = (suc (suc n), omega (arith, within), at)
+
+pub only_given : (status : ℕ) → Contains (0 ∷ 5 ∷ 6 ∷ []) status → Contains (0 ∷ 2 ∷ 3 ∷ 4 ∷ 5 ∷ 6 ∷ []) status
+only_given status (zero, within, at) = (0, omega arith, at)
+only_given status (suc n, within, at) = (suc (suc (suc (suc n))), omega (arith, within), at)
+
+-- where the words are no command, nothing is owed
+pub nothing_owed : (words : List (List ℕ)) (left : Option (List ℕ)) (status : ℕ) → IsNoCommand words → IsComplete words left status
+nothing_owed words left status none = record { plays = λ form. absurd (none Serial form); makes = makes }
+  where
+    makes : AreMakers words → (status ≡ 0) ⊎ (status ≡ 6)
+    makes (recipe, inl form) = absurd (none (Make recipe) form)
+    makes (recipe, inr form) = absurd (none (Sum recipe) form)
+
+-- the line of numbers was broken off
+pub sum_breaks : {E : Type 0} (words : List (List ℕ)) (left rest before after : Option (List ℕ)) (command : Command) (recipe : Recipe) (text : Result (Vec ℕ) E)
+    → command ≡ Sum recipe → IsCommand words command → IfOk text (λ t. t.items ≡ sum_text recipe) → IfOk text (λ t. AppendsPart before after t.items)
+    → IsOk text → Breaks words left rest before after
+sum_breaks words left rest before after command recipe (Ok t) same form is part ok =
+    record { command = Sum recipe; form = subst (IsCommand words) same form; part = subst (AppendsPart before after) is part }
+sum_breaks words left rest before after command recipe (Err e) same form is part ok = cc

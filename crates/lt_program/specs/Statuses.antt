@@ -1,5 +1,6 @@
--- What each status says of the words, of what the source had left and has left now, and of what the sink had taken
--- and has taken now. None stands for a source or a sink that does not tell.
+-- What each status says of the words, of what the source had left and has left now, of what the sink had taken
+-- and has taken now, and of what the watches had been told and have been told now. None stands for a source or a sink that
+-- does not tell.
 use Rattle.std.specs.Prelude.{◌≡◌, ℕ, ◌⊎◌, List, Some, IfSome}
 use Rattle.std.specs.declared.option.Option.{Option}
 use Rattle.std.specs.Io.KnownBytes.{Appends, Consumes, IsAtEnd}
@@ -7,11 +8,16 @@ use Rattle.lt_edge.specs.Bytes.{AppendsPart, ReadsUpTo}
 use Rattle.lt_trace.specs.Trace.{TraceView}
 use Rattle.lt_trace.specs.Grammar.{deciding_bytes, Spells, IsFirstFault}
 use Rattle.lt_trace.specs.declared.fault.TraceFault.{TraceFault}
-use Rattle.lt_program.specs.Words.{IsCommand}
+use Rattle.lt_watch.specs.Tellings.{Log}
+use Rattle.lt_runner.specs.Serial.{serial, ran_text}
+use Rattle.lt_program.specs.Words.{IsCommand, AreMakers}
 use Rattle.lt_program.specs.Refusal.{fault_text}
-use Rattle.lt_program.specs.Answers.{IsText, IsTextOfRun, IsAnswer, bytes_of}
+use Rattle.lt_program.specs.Answers.{IsTextOfRun, IsAnswer, bytes_of, HasTold, IsTold, made_text, sum_text}
 use Rattle.lt_program.specs.declared.answer.Answer.{Answer}
 use Rattle.lt_program.specs.declared.words.Command.{Command}
+use Rattle.lt_program.specs.declared.words.Command.TheVariants.{Serial, Make, Sum}
+
+-- Of a command that plays what is read.
 
 -- All that the source had was read.
 pub record ReadsAll (left rest : Option (List ℕ)) (bytes : List ℕ) : Type 0 where
@@ -23,18 +29,17 @@ pub record ReadsEnough (left rest : Option (List ℕ)) (bytes : List ℕ) : Type
   pub bytes_read : ReadsUpTo deciding_bytes left bytes
   pub read : Consumes left rest bytes
 
--- The command did its work: the bytes read spell a trace, and its text was written, which is that of a run.
-pub record Works (words : List (List ℕ)) (left rest before after : Option (List ℕ)) : Type 0 where
-  pub command : Command
+-- The bytes read spell a trace, its text was written, which is that of a run, and the watches were told the run's joins.
+pub record Plays (left rest before after : Option (List ℕ)) (untold told : List Log) : Type 0 where
   pub bytes : List ℕ
   pub trace : TraceView
   pub text : List ℕ
-  pub form : IsCommand words command
   pub read : ReadsAll left rest bytes
   pub spelled : Spells bytes trace
-  pub work : IsText command trace text
-  pub run : IsTextOfRun command trace text
+  pub work : text ≡ ran_text (serial trace 0)
+  pub run : IsTextOfRun trace text
   pub written : Appends before after text
+  pub watched : HasTold trace untold told
 
 -- The bytes are no trace, and this is their first fault.
 pub record IsNoTrace (bytes : List ℕ) (fault : TraceFault) : Type 0 where
@@ -42,29 +47,64 @@ pub record IsNoTrace (bytes : List ℕ) (fault : TraceFault) : Type 0 where
   pub first : IsFirstFault bytes fault
 
 -- The bytes read are no trace, and nor is all that the source had. The line of their first fault was written.
-pub record Refuses (words : List (List ℕ)) (left rest before after : Option (List ℕ)) : Type 0 where
-  pub command : Command
+pub record Refuses (left rest before after : Option (List ℕ)) : Type 0 where
   pub bytes : List ℕ
   pub fault : TraceFault
-  pub form : IsCommand words command
   pub read : ReadsEnough left rest bytes
   pub wrong : IsNoTrace bytes fault
   pub all_wrong : IfSome left (λ all. IsNoTrace all fault)
   pub written : Appends before after (fault_text fault)
 
 -- Some of the text or of the refusal was written, but not all.
-pub record Breaks (words : List (List ℕ)) (left rest before after : Option (List ℕ)) : Type 0 where
-  pub command : Command
+pub record BreaksOff (left rest before after : Option (List ℕ)) : Type 0 where
   pub bytes : List ℕ
   pub answer : Answer
-  pub form : IsCommand words command
   pub read : ReadsEnough left rest bytes
-  pub right : IsAnswer command bytes answer
+  pub right : IsAnswer bytes answer
   pub written : AppendsPart before after (bytes_of answer)
 
--- A command does its work on what spells a trace, and refuses what does not, unless memory runs out.
+-- The watches were told the joins of the run of the trace that was read.
+pub record TellsRun (left : Option (List ℕ)) (untold told : List Log) : Type 0 where
+  pub bytes : List ℕ
+  pub read : ReadsUpTo deciding_bytes left bytes
+  pub run : IsTold bytes untold told
+
+-- They were told nothing, or all of them.
+abbrev pub TellsOrNot : Option (List ℕ) → List Log → List Log → Type 0
+TellsOrNot left untold told = (told ≡ untold) ⊎ TellsRun left untold told
+
+-- What spells a trace is played, and what does not is refused, unless memory runs out.
+pub record PlaysOrRefuses (left : Option (List ℕ)) (status : ℕ) : Type 0 where
+  pub trace : (bytes : List ℕ) (t : TraceView) → left ≡ Some bytes → Spells bytes t → (status ≡ 0) ⊎ (status ≡ 6)
+  pub no_trace : (bytes : List ℕ) → left ≡ Some bytes → ((t : TraceView) → ¬ Spells bytes t) → (status ≡ 3) ⊎ (status ≡ 6)
+
+-- Of all commands.
+
+-- the command did its work
+abbrev pub HasWorked : Command → Option (List ℕ) → Option (List ℕ) → Option (List ℕ) → Option (List ℕ) → List Log → List Log → Type 0
+HasWorked Serial left rest before after untold told = Plays left rest before after untold told
+HasWorked (Make recipe) left rest before after untold told = Appends before after (made_text recipe)
+HasWorked (Sum recipe) left rest before after untold told = Appends before after (sum_text recipe)
+
+-- the words are a command, and it did its work
+pub record Works (words : List (List ℕ)) (left rest before after : Option (List ℕ)) (untold told : List Log) : Type 0 where
+  pub command : Command
+  pub form : IsCommand words command
+  pub work : HasWorked command left rest before after untold told
+
+-- some of what it writes was written, but not all
+abbrev pub HasBrokenOff : Command → Option (List ℕ) → Option (List ℕ) → Option (List ℕ) → Option (List ℕ) → Type 0
+HasBrokenOff Serial left rest before after = BreaksOff left rest before after
+HasBrokenOff (Make recipe) left rest before after = AppendsPart before after (made_text recipe)
+HasBrokenOff (Sum recipe) left rest before after = AppendsPart before after (sum_text recipe)
+
+-- the words are a command, and its writing was broken off
+pub record Breaks (words : List (List ℕ)) (left rest before after : Option (List ℕ)) : Type 0 where
+  pub command : Command
+  pub form : IsCommand words command
+  pub part : HasBrokenOff command left rest before after
+
+-- A command does its work, and what is no trace is refused where one is wanted, unless memory runs out.
 pub record IsComplete (words : List (List ℕ)) (left : Option (List ℕ)) (status : ℕ) : Type 0 where
-  pub trace : (command : Command) (bytes : List ℕ) (t : TraceView) →
-      IsCommand words command → left ≡ Some bytes → Spells bytes t → (status ≡ 0) ⊎ (status ≡ 6)
-  pub no_trace : (command : Command) (bytes : List ℕ) →
-      IsCommand words command → left ≡ Some bytes → ((t : TraceView) → ¬ Spells bytes t) → (status ≡ 3) ⊎ (status ≡ 6)
+  pub plays : IsCommand words Serial → PlaysOrRefuses left status
+  pub makes : AreMakers words → (status ≡ 0) ⊎ (status ≡ 6)

@@ -1,49 +1,48 @@
 //! What is written for the bytes that were read.
-ghost use Rattle.std.specs.Prelude.{◌≡◌, IfOk};
+ghost use Rattle.std.specs.Prelude.{◌≡◌, ◌⊎◌, IfOk, OnOk, OnErr};
 ghost use Rattle.lt_runner.specs.Serial.{serial, ran_text};
-ghost use Rattle.lt_program.specs.Answers.{IsText, IsAnswer};
+ghost use Rattle.lt_program.specs.Answers.{IsAnswer, HasTold, IsToldBy, IsToldOrNot};
 
 use crate::refusal::refusal_line;
-use crate::words::Command;
 use lt_history::print;
 use lt_runner::run_serial;
 use lt_seq::SeqYard;
 use lt_trace::{Trace, TraceFault, read};
+use lt_watch::Tells;
 use std::alloc::{AllocError, Global};
 
 /// What is to be written.
 #[derive(Debug, Drop)]
 pub(crate) enum Answer {
-    /// The text of the command's work.
+    /// The text of the trace's run.
     Text(Vec<u8>),
     /// The line that refuses the bytes, since they are no trace.
     Refusal(Vec<u8>),
 }
 
-/// The answer of a command to the bytes that were read.
-pub(crate) fn answer_to(alloc: Global, command: Command, bytes: &[u8]) -> Result<Answer, AllocError>
-    ensures { IfOk result (IsAnswer command bytes.now) }
+/// The answer to the bytes that were read. Where they are a trace, each watch is told the joins of its run.
+pub(crate) fn answer_to<T: Tells>(
+    alloc: Global,
+    bytes: &[u8],
+    watch: &mut T,
+) -> Result<Answer, AllocError>
+    ensures answer { IfOk result (IsAnswer bytes.now) }
+    ensures told { IfOk result (λ answer. IsToldBy bytes.now answer (T.logs watch.old) (T.logs watch.new)) }
+    ensures short { OnErr result (IsToldOrNot bytes.now (T.logs watch.old) (T.logs watch.new)) }
 {
     match read(alloc, bytes) {
-        Ok(trace) => Ok(Answer::Text(text_of(alloc, command, &trace)?)),
+        Ok(trace) => Ok(Answer::Text(serial_text(alloc, &trace, watch)?)),
         Err(TraceFault::OutOfMemory) => Err(AllocError),
         Err(fault) => Ok(Answer::Refusal(refusal_line(alloc, &fault)?)),
     }
 }
 
-/// The text of the command's work on the trace.
-fn text_of(alloc: Global, command: Command, trace: &Trace) -> Result<Vec<u8>, AllocError>
-    ensures { IfOk result (λ text. IsText command trace.now text.items) }
-{
-    match command {
-        Command::Serial => serial_text(alloc, trace),
-    }
-}
-
 /// The transcript of the plain scheduler.
-fn serial_text(alloc: Global, trace: &Trace) -> Result<Vec<u8>, AllocError>
-    ensures { IfOk result (λ text. text.items ≡ ran_text (serial trace.now 0)) }
+fn serial_text<T: Tells>(alloc: Global, trace: &Trace, watch: &mut T) -> Result<Vec<u8>, AllocError>
+    ensures text { IfOk result (λ text. text.items ≡ ran_text (serial trace.now 0)) }
+    ensures told { OnOk result (HasTold trace.now (T.logs watch.old) (T.logs watch.new)) }
+    ensures short { OnErr result ((T.logs watch.new ≡ T.logs watch.old) ⊎ HasTold trace.now (T.logs watch.old) (T.logs watch.new)) }
 {
-    let run = run_serial::<SeqYard>(alloc, trace, 0)?;
+    let run = run_serial::<SeqYard, T>(alloc, trace, 0, watch)?;
     print(alloc, &run.receipts, &run.outcomes, run.places, run.used)
 }

@@ -2,13 +2,17 @@
 #![tactic(auto)]
 
 mod answer;
+mod making;
+mod playing;
 mod refusal;
 mod running;
 pub mod status;
+mod unfailing;
 mod words;
 
 pub use running::run;
-pub use words::{Command, command_of};
+pub use unfailing::run_unfailing;
+pub use words::{Command, Recipe, command_of};
 
 #[cfg(test)]
 mod tests;

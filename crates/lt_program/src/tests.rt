@@ -1,6 +1,7 @@
 //! What the program writes on worked traces, and where an end fails: the texts here come from outside.
 use crate::run;
 use lt_edge::{MemSink, MemSource};
+use lt_watch::NoWatches;
 use std::alloc::{AllocError, Global};
 use std::test::Fail;
 
@@ -47,7 +48,13 @@ pub(crate) fn run_failing(
     let words = owned(alloc, words)?;
     let mut source = MemSource::new(input.as_bytes().to_vec(alloc)?, 16, numbers(alloc, read)?);
     let mut sink = MemSink::new(alloc, 16_384, 8, numbers(alloc, put)?)?;
-    let status = run(alloc, words.as_slice(), &mut source, &mut sink);
+    let status = run(
+        alloc,
+        words.as_slice(),
+        &mut source,
+        &mut sink,
+        &mut NoWatches,
+    );
     Ok((status, sink.bytes().to_vec(alloc)?))
 }
 

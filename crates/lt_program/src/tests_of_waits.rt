@@ -2,6 +2,7 @@
 use crate::run;
 use crate::tests::{HEADER, run_failing, run_serial};
 use lt_edge::{MemSink, MemSource};
+use lt_watch::NoWatches;
 use std::alloc::{AllocError, Global};
 use std::test::Fail;
 
@@ -343,7 +344,13 @@ fn run_on(alloc: Global, input: &[u8]) -> Result<(u8, Vec<u8>), AllocError> {
     words.push(String::from_str(alloc, "serial")?)?;
     let mut source = MemSource::new(input.to_vec(alloc)?, 16, Vec::new(alloc));
     let mut sink = MemSink::new(alloc, 4096, 64, Vec::new(alloc))?;
-    let status = run(alloc, words.as_slice(), &mut source, &mut sink);
+    let status = run(
+        alloc,
+        words.as_slice(),
+        &mut source,
+        &mut sink,
+        &mut NoWatches,
+    );
     Ok((status, sink.bytes().to_vec(alloc)?))
 }
 

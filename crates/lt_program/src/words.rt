@@ -1,12 +1,30 @@
 //! The words of the command line.
 ghost use Rattle.std.specs.Prelude.{◌∷◌, [], IfSome, IfNone, map, string_bytes};
-ghost use Rattle.lt_program.specs.Words.{IsCommand, IsNoCommand};
+ghost use Rattle.lt_program.specs.declared.words.Recipe.{Recipe};
+ghost use Rattle.lt_program.specs.Words.{IsCommand, IsNoCommand, SpellRecipe};
+
+use lt_trace::{MOST_DRAWN_LINES, number};
+
+/// The numbers that a trace is made of.
+#[derive(Clone, Copy, Debug, PartialEq, Eq, Hash)]
+pub struct Recipe {
+    /// Any number of 64 bits.
+    pub seed: u64,
+    /// How many transactions it has, 1 to 1,024.
+    pub txns: u32,
+    /// How many lines are drawn, 1 to 64,512.
+    pub lines: u32,
+}
 
 /// What the words ask for.
 #[derive(Clone, Copy, Debug, PartialEq, Eq, Hash)]
 pub enum Command {
-    /// `serial`: play the trace with the plain scheduler.
+    /// `serial`: play the trace that is read with the plain scheduler.
     Serial,
+    /// `make SEED TXNS LINES`: make a trace.
+    Make(Recipe),
+    /// `sum SEED TXNS LINES`: play that trace, and tell the run in one line of numbers.
+    Sum(Recipe),
 }
 
 /// The command that the words are, if they are one.
@@ -16,16 +34,53 @@ pub fn command_of(words: &[String]) -> Option<Command>
 {
     match words {
         [word] => single(word.as_str()),
+        [word, seed, txns, lines] => maker(
+            word.as_str(),
+            seed.as_bytes(),
+            txns.as_bytes(),
+            lines.as_bytes(),
+        ),
         _ => None,
     }
 }
 
+/// The command of one word.
 fn single(word: &str) -> Option<Command>
     ensures some { IfSome result (IsCommand (word.now ∷ [])) }
     ensures none { IfNone result (IsNoCommand (word.now ∷ [])) }
 {
     if word == "serial" {
         Some(Command::Serial)
+    } else {
+        None
+    }
+}
+
+/// The numbers that these words are, if they are ones of which a trace can be made.
+fn recipe_of(seed: &[u8], txns: &[u8], lines: &[u8]) -> Option<Recipe>
+    ensures some { IfSome result (SpellRecipe seed.now txns.now lines.now) }
+    ensures none { IfNone result ((recipe : Recipe) → ¬ SpellRecipe seed.now txns.now lines.now recipe) }
+{
+    let seed = number(seed, 0, u64::MAX)?;
+    let txns = number(txns, 1, 1_024)?;
+    let lines = number(lines, 1, u64::from(MOST_DRAWN_LINES))?;
+    Some(Recipe {
+        seed,
+        txns: txns as u32,
+        lines: lines as u32,
+    })
+}
+
+/// The command of a word and three numbers.
+fn maker(word: &str, seed: &[u8], txns: &[u8], lines: &[u8]) -> Option<Command>
+    ensures some { IfSome result (IsCommand (word.now ∷ seed.now ∷ txns.now ∷ lines.now ∷ [])) }
+    ensures none { IfNone result (IsNoCommand (word.now ∷ seed.now ∷ txns.now ∷ lines.now ∷ [])) }
+{
+    let recipe = recipe_of(seed, txns, lines)?;
+    if word == "make" {
+        Some(Command::Make(recipe))
+    } else if word == "sum" {
+        Some(Command::Sum(recipe))
     } else {
         None
     }

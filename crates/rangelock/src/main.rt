@@ -1,25 +1,42 @@
-//! `rangelock serial` plays the trace on standard input and writes its transcript to standard output.
+//! `rangelock serial` plays the trace on standard input and writes its transcript to standard output. `rangelock make` and
+//! `rangelock sum` make a trace of three numbers, and write it or the numbers of its run.
 #![tactic(auto)]
 
 use lt_edge::{ReadSource, WriteSink};
 use lt_program::{run, status};
-use std::alloc::Global;
+use lt_watch::{ListWatch, Watchers};
+use std::alloc::{AllocError, Global};
 use std::process::ExitCode;
 use std::rt::Env;
 use std::{env, io};
 
+/// How many items the watch of a run may be told: a join is one item, and each range behind it is another.
+const WATCHED_ITEMS: usize = 65_536;
+
 fn main(rt: HostRuntime) -> ExitCode {
-    let status = match words(&rt) {
-        Ok(words) => {
+    let status = match (words(&rt), watchers(rt.alloc())) {
+        (Ok(words), Ok(mut watch)) => {
             let mut source = ReadSource::new(rt.reader());
             let mut sink = WriteSink::new(io::writer(&rt));
-            run(rt.alloc(), words.as_slice(), &mut source, &mut sink)
+            let status = run(
+                rt.alloc(),
+                words.as_slice(),
+                &mut source,
+                &mut sink,
+                &mut watch,
+            );
+            let joins = watch.take_back(0).map_or(0, |told| told.joins());
+            if joins != 0 {
+                let _ = eprintln!(rt; "escalations: {joins}");
+            }
+            status
         }
-        Err(status) => status,
+        (Err(status), _) => status,
+        (Ok(_), Err(AllocError)) => status::NO_MEMORY,
     };
     if status == status::USAGE {
         // Where standard error fails too, the status alone has to tell.
-        let _ = eprintln!(rt; "usage: rangelock serial");
+        let _ = eprintln!(rt; "usage: rangelock serial | make SEED TXNS LINES | sum SEED TXNS LINES");
     }
     ExitCode::from(status)
 }
@@ -33,5 +50,15 @@ fn words(rt: &(impl Env + Alloc<A = Global>)) -> Result<Vec<String>, u8> {
             .map_err(|_| status::NO_MEMORY),
         Err(error) if error.kind() == io::ErrorKind::OutOfMemory => Err(status::NO_MEMORY),
         Err(_) => Err(status::USAGE),
+    }
+}
+
+/// A list of one watch, which was told nothing.
+fn watchers(alloc: Global) -> Result<Watchers, AllocError> {
+    let watch = Box::new(alloc, ListWatch::new(alloc, WATCHED_ITEMS)?)?;
+    let mut watchers = Watchers::new(alloc);
+    match watchers.add(watch) {
+        Ok(()) => Ok(watchers),
+        Err(_) => Err(AllocError),
     }
 }

@@ -2,5 +2,5 @@ use Rattle.std.proofs.Common.{rules}
 use Rattle.lt_program.proofs.StatusLaws.{refused_first}
 use Rattle.lt_program.proofs.answer.answer_to.Goals as goal
 
-pub returns-in_ok-refusal_line-in-Err : goal.returns-in_ok-refusal_line-in-Err
-returns-in_ok-refusal_line-in-Err c = (c.in-Err.fault, refused_first c.args.bytes.now c.in-Err.fault (search rules) c.in-Err.ensures.refused, c.in_ok-refusal_line-in-Err.ensures)
+pub returns-in_ok-refusal_line-in-Err-clause-answer : goal.returns-in_ok-refusal_line-in-Err-clause-answer
+returns-in_ok-refusal_line-in-Err-clause-answer g c = (c.in-Err.fault, refused_first c.args.bytes.now c.in-Err.fault (search rules) c.in-Err.ensures.refused, c.in_ok-refusal_line-in-Err.ensures)

@@ -1,0 +1,20 @@
+use Rattle.std.proofs.Common.{arith}
+use Rattle.lt_program.proofs.StatusLaws.{only_played, only_given, nothing_owed, sum_breaks}
+use Rattle.lt_program.proofs.running.run.Goals as goal
+
+pub returns-in_default-clause-complete : goal.returns-in_default-clause-complete
+returns-in_default-clause-complete g c = λ no_read no_write. nothing_owed _ _ 2 c.in_default.ensures.none
+
+pub returns-in-Serial-clause-only : goal.returns-in-Serial-clause-only
+returns-in-Serial-clause-only g c = only_played c.play.result c.play.ensures.only
+
+pub returns-in-Make-clause-only : goal.returns-in-Make-clause-only
+returns-in-Make-clause-only g c = only_given c.give.result c.give.ensures.only
+
+pub returns-in-Sum-clause-only : goal.returns-in-Sum-clause-only
+returns-in-Sum-clause-only g c = only_given c.give-in-Sum.result c.give-in-Sum.ensures.only
+
+pub returns-in-Sum-clause-part : goal.returns-in-Sum-clause-part
+returns-in-Sum-clause-part g c = λ five.
+    sum_breaks _ _ _ _ _ c.in-Some.command c.in-Sum.recipe c.sum_text.result c.in-Sum.is c.in-Some.ensures.some c.sum_text.ensures
+    (c.give-in-Sum.ensures.some five) (c.give-in-Sum.ensures.there (λ six. omega arith))

@@ -1,0 +1,66 @@
+//! Playing the trace that a source has.
+ghost use Rattle.std.specs.Prelude.{◌≡◌, ◌≢◌, ◌⊎◌, ◌∷◌, [], Contains};
+ghost use Rattle.std.specs.Io.KnownBytes.{Appends};
+ghost use Rattle.lt_edge.specs.Bytes.{AppendsPart};
+ghost use Rattle.lt_edge.specs.Causes.{Rose};
+ghost use Rattle.lt_program.specs.Answers.{status_of, bytes_of};
+ghost use Rattle.lt_program.specs.Statuses.{Plays, Refuses, BreaksOff, TellsOrNot, PlaysOrRefuses};
+
+use crate::answer::{Answer, answer_to};
+use crate::status;
+use lt_edge::{ReadFault, Sink, Source, put_all, read_all};
+use lt_trace::DECIDING_BYTES;
+use lt_watch::Tells;
+use std::alloc::Global;
+
+/// Reads the source to its end, plays what it has as a trace, tells the watches the joins, and writes the text or a refusal
+/// to the sink.
+pub(crate) fn play<S: Source, K: Sink, T: Tells>(
+    alloc: Global,
+    source: &mut S,
+    sink: &mut K,
+    watch: &mut T,
+) -> u8
+    ensures done { result ≡ 0 → Plays (S.left source.old) (S.left source.new) (K.taken sink.old) (K.taken sink.new)
+        (T.logs watch.old) (T.logs watch.new) }
+    ensures refused { result ≡ 3 → Refuses (S.left source.old) (S.left source.new) (K.taken sink.old) (K.taken sink.new) }
+    ensures unread { result ≡ 4 → Rose (S.faults source.old) (S.faults source.new) }
+    ensures unwritten { result ≡ 5 → Rose (K.faults sink.old) (K.faults sink.new) }
+    ensures part { result ≡ 5 → BreaksOff (S.left source.old) (S.left source.new) (K.taken sink.old) (K.taken sink.new) }
+    ensures only { Contains (0 ∷ 3 ∷ 4 ∷ 5 ∷ 6 ∷ []) result }
+    ensures read { result ≢ 4 → S.faults source.new ≡ S.faults source.old }
+    ensures written { result ≢ 5 → K.faults sink.new ≡ K.faults sink.old }
+    ensures silent { (result ≡ 4) ⊎ (result ≡ 6) → sink.new ≡ sink.old }
+    ensures untold { (result ≡ 3) ⊎ (result ≡ 4) → T.logs watch.new ≡ T.logs watch.old }
+    ensures told_or_not { (result ≡ 5) ⊎ (result ≡ 6) → TellsOrNot (S.left source.old) (T.logs watch.old) (T.logs watch.new) }
+    ensures complete { ¬ Rose (S.faults source.old) (S.faults source.new) → ¬ Rose (K.faults sink.old) (K.faults sink.new) →
+        PlaysOrRefuses (S.left source.old) result }
+{
+    let bytes = match read_all(alloc, source, DECIDING_BYTES) {
+        Ok(bytes) => bytes,
+        Err(ReadFault::Failed) => return status::UNREAD,
+        Err(ReadFault::OutOfMemory) => return status::NO_MEMORY,
+    };
+    match answer_to(alloc, &bytes, watch) {
+        Ok(answer) => deliver(sink, &answer),
+        Err(_) => status::NO_MEMORY,
+    }
+}
+
+/// Writes the answer, and gives its status, or that of a sink that failed.
+fn deliver<K: Sink>(sink: &mut K, answer: &Answer) -> u8
+    ensures status { (result ≡ status_of answer.now) ⊎ (result ≡ 5) }
+    ensures all { result ≢ 5 → Appends (K.taken sink.old) (K.taken sink.new) (bytes_of answer.now) }
+    ensures part { result ≡ 5 → AppendsPart (K.taken sink.old) (K.taken sink.new) (bytes_of answer.now) }
+    ensures failed { result ≡ 5 → Rose (K.faults sink.old) (K.faults sink.new) }
+    ensures calm { result ≢ 5 → K.faults sink.new ≡ K.faults sink.old }
+{
+    let (status, bytes) = match answer {
+        Answer::Text(text) => (status::DONE, text),
+        Answer::Refusal(line) => (status::REFUSED, line),
+    };
+    match put_all(sink, bytes) {
+        Ok(()) => status,
+        Err(_) => status::UNWRITTEN,
+    }
+}

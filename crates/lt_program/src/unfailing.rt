@@ -1,0 +1,26 @@
+//! Runs between ends that never fail.
+ghost use Rattle.std.specs.Prelude.{◌≡◌, ◌⊎◌, ℕ, List, map, string_bytes};
+ghost use Rattle.lt_trace.specs.Trace.{TraceView};
+ghost use Rattle.lt_trace.specs.Grammar.{Spells};
+ghost use Rattle.lt_program.specs.Words.{IsCommand, AreMakers};
+ghost use Rattle.lt_program.specs.declared.words.Command.TheVariants.{Serial};
+
+use crate::running::run;
+use lt_edge::{NoFailSink, NoFailSource};
+use lt_watch::Tells;
+use std::alloc::Global;
+
+/// Does what the words ask for, as [`run`] does, from a source and to a sink that never fail. Where the words are a command,
+/// and what the source has is a trace if one is wanted, the status is 0, or 6 for want of memory.
+pub fn run_unfailing<T: Tells>(
+    alloc: Global,
+    words: &[String],
+    source: &mut NoFailSource,
+    sink: &mut NoFailSink,
+    watch: &mut T,
+) -> u8
+    ensures plays { (trace : TraceView) → IsCommand (map string_bytes words.now) Serial → Spells source.old trace → (result ≡ 0) ⊎ (result ≡ 6) }
+    ensures makes { AreMakers (map string_bytes words.now) → (result ≡ 0) ⊎ (result ≡ 6) }
+{
+    run(alloc, words, source, sink, watch)
+}
