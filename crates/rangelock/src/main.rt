@@ -14,17 +14,21 @@ use std::{env, io};
 const WATCHED_ITEMS: usize = 65_536;
 
 fn main(rt: HostRuntime) -> ExitCode {
-    let status = match (words(&rt), watchers(rt.alloc())) {
-        (Ok(words), Ok(mut watch)) => {
+    let status = match (words(&rt), list_watch(rt.alloc())) {
+        (Ok(words), Ok(list)) => {
+            let mut watch = Watchers::new(rt.alloc());
             let mut source = ReadSource::new(rt.reader());
             let mut sink = WriteSink::new(io::writer(&rt));
-            let status = run(
-                rt.alloc(),
-                words.as_slice(),
-                &mut source,
-                &mut sink,
-                &mut watch,
-            );
+            let status = match watch.add(list) {
+                Ok(()) => run(
+                    rt.alloc(),
+                    words.as_slice(),
+                    &mut source,
+                    &mut sink,
+                    &mut watch,
+                ),
+                Err(_) => status::NO_MEMORY,
+            };
             let joins = watch.take_back(0).map_or(0, |told| told.joins());
             if joins != 0 {
                 let _ = eprintln!(rt; "escalations: {joins}");
@@ -36,7 +40,9 @@ fn main(rt: HostRuntime) -> ExitCode {
     };
     if status == status::USAGE {
         // Where standard error fails too, the status alone has to tell.
-        let _ = eprintln!(rt; "usage: rangelock serial | make SEED TXNS LINES | sum SEED TXNS LINES");
+        let _ = eprintln!(rt;
+            "usage: rangelock serial | make SEED TXNS LINES | sum SEED TXNS LINES"
+        );
     }
     ExitCode::from(status)
 }
@@ -53,12 +59,7 @@ fn words(rt: &(impl Env + Alloc<A = Global>)) -> Result<Vec<String>, u8> {
     }
 }
 
-/// A list of one watch, which was told nothing.
-fn watchers(alloc: Global) -> Result<Watchers, AllocError> {
-    let watch = Box::new(alloc, ListWatch::new(alloc, WATCHED_ITEMS)?)?;
-    let mut watchers = Watchers::new(alloc);
-    match watchers.add(watch) {
-        Ok(()) => Ok(watchers),
-        Err(_) => Err(AllocError),
-    }
+/// A watch that was told nothing.
+fn list_watch(alloc: Global) -> Result<Box<ListWatch>, AllocError> {
+    Ok(Box::new(alloc, ListWatch::new(alloc, WATCHED_ITEMS)?)?)
 }
