@@ -17,4 +17,6 @@ pub use words::{Command, Recipe, command_of};
 #[cfg(test)]
 mod tests;
 #[cfg(test)]
+mod tests_of_makers;
+#[cfg(test)]
 mod tests_of_waits;

@@ -21,7 +21,8 @@ const HELD_TEXT: &str = "0 1 ask 0 \"a\" \"c\" granted\n\
         txn 2 done\n\
         end 3 0\n";
 
-fn owned(alloc: Global, words: &[&str]) -> Result<Vec<String>, AllocError> {
+/// Words as the program is given them.
+pub(crate) fn owned(alloc: Global, words: &[&str]) -> Result<Vec<String>, AllocError> {
     let mut owned = Vec::new(alloc);
     for word in words {
         owned.push(String::from_str(alloc, word)?)?;
