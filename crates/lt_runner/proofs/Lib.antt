@@ -63,3 +63,4 @@ pub mod AskLaws
 pub mod AddedLaws
 pub mod WholeRunLaws
 pub mod TraceRoomLaws
+pub mod StartsOnLaws

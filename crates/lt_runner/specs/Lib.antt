@@ -22,3 +22,4 @@ pub mod Nothing
 pub mod Settles
 pub mod Board
 pub mod Transcript
+pub mod StartsOn

@@ -11,6 +11,7 @@ ghost use Rattle.lt_runner.specs.Rows.{Rows};
 ghost use Rattle.lt_runner.specs.Run.{IsRunText};
 ghost use Rattle.lt_runner.specs.Serial.{ran_text, serial, setting_of};
 ghost use Rattle.lt_runner.specs.Settles.{SweepsSettleOne};
+ghost use Rattle.lt_runner.specs.StartsOn.{StartsPlayOn};
 
 /// The plain scheduler writes the worked examples' texts.
 pub fn worked_rows()
@@ -66,4 +67,12 @@ pub fn releases_leave_nothing()
 #[tactic(auto, using(crate::proofs::NothingLaws::runs_leave_nothing))]
 pub fn runs_leave_nothing()
     ensures { RunsLeaveNothing }
+{}
+
+/// A start or a retry by a pass that has all the rights, where there are places, plays a transaction of a crew on that waits,
+/// whether it was registered before or not: its ask with its joins, and where it was held one search, among the wishes that
+/// were registered then with its own.
+#[tactic(auto, using(crate::proofs::StartsOnLaws::starts_play_on))]
+pub fn starts_play_on()
+    ensures { StartsPlayOn }
 {}
