@@ -122,7 +122,7 @@ over_wishes n (t ∷ ts) all = by_wish (wish_of t) refl (over_wishes n ts all.1)
     by_wish None is rest = rest
     by_wish (Some w) is rest = ((let less = over_less n t.txn all.0 in omega (arith, less, wish_of_number t w is)), rest)
 
-wishes_rise : (turns : List Turn) → IsStrictlySortedBy nat_cmp (map (λ t. t.txn) turns) → Rises (txns_of (wishes_in turns))
+pub wishes_rise : (turns : List Turn) → IsStrictlySortedBy nat_cmp (map (λ t. t.txn) turns) → Rises (txns_of (wishes_in turns))
 unfolding IsStrictlySortedBy
 wishes_rise [] sorted = tt
 wishes_rise (t ∷ ts) sorted = by_wish (wish_of t) refl (wishes_rise ts sorted.1)
@@ -131,7 +131,7 @@ wishes_rise (t ∷ ts) sorted = by_wish (wish_of t) refl (wishes_rise ts sorted.
     by_wish None is rest = rest
     by_wish (Some w) is rest = (subst (λ (n : ℕ). AllAbove n (txns_of (wishes_in ts))) (sym (wish_of_number t w is)) (over_wishes t.txn ts sorted.0), rest)
 
-few_wishes : (turns : List Turn) → length (wishes_in turns) ≤ length turns
+pub few_wishes : (turns : List Turn) → length (wishes_in turns) ≤ length turns
 few_wishes [] = omega arith
 few_wishes (t ∷ ts) = by_wish (wish_of t) (few_wishes ts)
   where

@@ -64,3 +64,4 @@ pub mod AddedLaws
 pub mod WholeRunLaws
 pub mod TraceRoomLaws
 pub mod StartsOnLaws
+pub mod RegisteredLaws

@@ -1,9 +1,8 @@
 -- What a start or a retry makes of a transaction that waits, whatever others do meanwhile.
-use Rattle.std.proofs.Common.{◌≡◌, ℕ, ◌+◌, ◌<◌, ◌≤◌, List, [], ◌∷◌, ◌++◌, Bool, true, false, ◌&&◌, ◌||◌, ◌==◌, not, if◌then◌else◌, IsTrue, Option, Some, None, Result, Ok, Err, Contains, zero, length}
+use Rattle.std.proofs.Common.{◌≡◌, ℕ, ◌+◌, ◌≤◌, List, [], ◌∷◌, ◌++◌, Bool, true, false, ◌&&◌, ◌||◌, ◌==◌, not, if◌then◌else◌, IsTrue, Option, Some, None, Result, Ok, Err, zero, length}
 use Rattle.std.proofs.Common.{inl, inr, refl, sym, ap, subst, ◌∙◌, arith, append_assoc, append-nil, length-append}
 use Rattle.std.specs.List.{AllByRecursion, find}
 use Rattle.std.proofs.lemmas.List.{map-append}
-use Rattle.lt_ranges.specs.Interval.{Interval}
 use Rattle.lt_seq.specs.declared.event.Deed.{Deed}
 use Rattle.lt_seq.specs.declared.event.Deed.TheVariants.{Ask, Free, Who, Join}
 use Rattle.lt_seq.specs.declared.event.Reply.{Reply}
@@ -16,7 +15,7 @@ use Rattle.lt_seq.specs.Table.{Setting}
 use Rattle.lt_seq.specs.History.{IsFront}
 use Rattle.lt_seq.specs.Questions.{question, events_of, named_by, named_in}
 use Rattle.lt_seq.specs.Yard.{PassView, HasAll, Goes, IsSound, Happens, AskAnswers, AreJoined, IsAsked, place_after, event_after}
-use Rattle.lt_seq.proofs.HistoryLaws.{front_on, front_itself}
+use Rattle.lt_seq.proofs.HistoryLaws.{front_itself}
 use Rattle.lt_seq.proofs.YardLaws.{goes_then}
 use Rattle.lt_trace.specs.declared.line.Line.{Line}
 use Rattle.lt_trace.specs.declared.line.LineDeed.{LineDeed}
@@ -39,7 +38,6 @@ use Rattle.lt_runner.specs.Seats.{idle, granted_at}
 use Rattle.lt_runner.specs.Played.{AreInside, Search, IsAmong, MovesBy}
 use Rattle.lt_runner.specs.PlaysOn.{PlaysOn}
 use Rattle.lt_runner.specs.StartsAlone.{MayStartAtOnce}
-use Rattle.lt_runner.specs.Board.{seat_so}
 use Rattle.lt_runner.specs.StartsOn.{IsAmongWishes, SearchesOn, StartsOn}
 use Rattle.lt_runner.proofs.LockMoveLaws.{HasLock, has_lock}
 use Rattle.lt_runner.proofs.PlayLaws.{list_inside}
@@ -116,7 +114,7 @@ at_lock turn wish reply walk at =
     ap (λ (ls : List Line). asked_at ls reply walk turn) at.next
     ∙ ap (λ (d : LineDeed). asked_at (record at.line { deed = d } ∷ at.rest) reply walk turn) at.lock
 
-granted_is : (turn : Turn) (wish : Wish) (buffered : Bool) (at : HasLock turn.txn wish turn.lines) →
+pub granted_is : (turn : Turn) (wish : Wish) (buffered : Bool) (at : HasLock turn.txn wish turn.lines) →
     granted_at turn buffered ≡ granted_to wish.tree wish.range buffered turn
 granted_is turn wish buffered at =
     ap (λ (ls : List Line). granted_at (record turn { lines = ls }) buffered) at.next

@@ -23,3 +23,4 @@ pub mod Settles
 pub mod Board
 pub mod Transcript
 pub mod StartsOn
+pub mod Listed

@@ -12,7 +12,6 @@ use Rattle.lt_requests.specs.Started.{IsStarted}
 use Rattle.lt_runner.specs.TurnView.{Seat}
 use Rattle.lt_runner.specs.Plays.{next_wish}
 use Rattle.lt_runner.specs.Attempt.{bar_of}
-use Rattle.lt_runner.specs.Played.{Search}
 use Rattle.lt_runner.specs.PlaysOn.{PlaysOn}
 use Rattle.lt_runner.specs.StartsAlone.{MayStartAtOnce}
 use Rattle.lt_runner.specs.Board.{seat_so}

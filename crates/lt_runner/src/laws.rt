@@ -10,6 +10,7 @@ ghost use Rattle.lt_runner.specs.RandomTraces.{RandomTraces};
 ghost use Rattle.lt_runner.specs.Rows.{Rows};
 ghost use Rattle.lt_runner.specs.Run.{IsRunText};
 ghost use Rattle.lt_runner.specs.Serial.{ran_text, serial, setting_of};
+ghost use Rattle.lt_runner.specs.Listed.{SeatsAsk, RegistriesStay, SeatsStayFit};
 ghost use Rattle.lt_runner.specs.Settles.{SweepsSettleOne};
 ghost use Rattle.lt_runner.specs.StartsOn.{StartsPlayOn};
 
@@ -75,4 +76,21 @@ pub fn runs_leave_nothing()
 #[tactic(auto, using(crate::proofs::StartsOnLaws::starts_play_on))]
 pub fn starts_play_on()
     ensures { StartsPlayOn }
+{}
+
+/// Where the registry has the wishes of exactly the registered ones, one that waits asks among them and its own, whether it
+/// starts or asks again, and each other transaction is listed rightly there.
+pub fn seats_ask()
+    ensures { SeatsAsk }
+{}
+
+/// Behind the answer of a start or a retry, and once one that was out of locks is forgotten, the registry has the wishes of
+/// exactly the registered ones again.
+pub fn registries_stay()
+    ensures { RegistriesStay }
+{}
+
+/// Behind the answer of a start or a retry the transaction may be played on.
+pub fn seats_stay_fit()
+    ensures { SeatsStayFit }
 {}
