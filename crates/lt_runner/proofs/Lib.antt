@@ -65,3 +65,5 @@ pub mod WholeRunLaws
 pub mod TraceRoomLaws
 pub mod StartsOnLaws
 pub mod RegisteredLaws
+pub mod WorkLaws
+pub mod SpendLaws

@@ -24,3 +24,4 @@ pub mod Board
 pub mod Transcript
 pub mod StartsOn
 pub mod Listed
+pub mod Work

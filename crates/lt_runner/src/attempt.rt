@@ -10,6 +10,7 @@ ghost use Rattle.lt_runner.specs.Plays.{line_question};
 ghost use Rattle.lt_runner.specs.PlaysOn.{IsAskDeed, IsReady, IsFit, IsNext, IsNextLine, IsNextFree};
 ghost use Rattle.lt_runner.specs.PlaysOn.{IsKept, PlaysOn, UnlessShort, IsMoved, moved_to};
 ghost use Rattle.lt_runner.specs.Notes.{KeepsNotes};
+ghost use Rattle.lt_runner.specs.Work.{Spends, StepsOn};
 ghost use Rattle.lt_runner.specs.PlaysAlone.{IsCaused, IsAtOnce, IsFreedAtOnce, MayPlayAtOnce};
 
 use crate::release::Release;
@@ -80,6 +81,9 @@ impl Turn {
         ensures plays { UnlessShort result (PlaysOn (Y.setting yard.now) [] (Y.Pass.view pass.old) (Y.Pass.view pass.new)
             self.old self.new) }
         ensures moved { IsMoved self.old self.new result }
+        ensures spends { UnlessShort result (Spends (Y.setting yard.now) (Y.Pass.view pass.old) (Y.Pass.view pass.new)
+            self.old self.new) }
+        ensures steps { StepsOn self.old self.new result }
         ensures caused { IsCaused (Y.setting yard.now) (Y.Pass.view pass.old) (Y.Pass.view pass.new) result }
         ensures alone { IsAtOnce (Y.setting yard.now) (Y.Pass.view pass.old) (Y.Pass.view pass.new) self.old self.new result }
     {
@@ -123,6 +127,9 @@ impl Turn {
         ensures plays { UnlessShort result (PlaysOn (Y.setting yard.now) [] (Y.Pass.view pass.old) (Y.Pass.view pass.new)
             self.old self.new) }
         ensures moved { IsMoved self.old self.new result }
+        ensures spends { UnlessShort result (Spends (Y.setting yard.now) (Y.Pass.view pass.old) (Y.Pass.view pass.new)
+            self.old self.new) }
+        ensures steps { StepsOn self.old self.new result }
         ensures caused { IsCaused (Y.setting yard.now) (Y.Pass.view pass.old) (Y.Pass.view pass.new) result }
         ensures alone { IsAtOnce (Y.setting yard.now) (Y.Pass.view pass.old) (Y.Pass.view pass.new) self.old self.new result }
     {
@@ -153,6 +160,9 @@ impl Turn {
         ensures plays { UnlessShort result (PlaysOn (Y.setting yard.now) [] (Y.Pass.view pass.old) (Y.Pass.view pass.new)
             self.old self.new) }
         ensures moved { IsMoved self.old self.new result }
+        ensures spends { UnlessShort result (Spends (Y.setting yard.now) (Y.Pass.view pass.old) (Y.Pass.view pass.new)
+            self.old self.new) }
+        ensures steps { StepsOn self.old self.new result }
         ensures caused { IsCaused (Y.setting yard.now) (Y.Pass.view pass.old) (Y.Pass.view pass.new) result }
         ensures alone { IsAtOnce (Y.setting yard.now) (Y.Pass.view pass.old) (Y.Pass.view pass.new) self.old self.new result }
     {
@@ -198,6 +208,8 @@ impl Turn {
             self.old self.new) }
         ensures freed { IfOk result (λ moved. self.new
             ≡ record self.old { turn = record self.old.turn { releases = rest_of_release self.old.turn.releases }; busy = false }) }
+        ensures spends { UnlessShort result (Spends (Y.setting yard.now) (Y.Pass.view pass.old) (Y.Pass.view pass.new)
+            self.old self.new) }
         ensures caused { IsCaused (Y.setting yard.now) (Y.Pass.view pass.old) (Y.Pass.view pass.new) result }
         ensures alone { MayPlayAtOnce (Y.setting yard.now) (Y.Pass.view pass.old) self.old.turn
             → IsFreedAtOnce (Y.setting yard.now) (Y.Pass.view pass.old) (Y.Pass.view pass.new) self.old.turn release.now result }
@@ -230,6 +242,9 @@ impl Turn {
         ensures plays { UnlessShort result (PlaysOn (Y.setting yard.now) [] (Y.Pass.view pass.old) (Y.Pass.view pass.new)
             self.old self.new) }
         ensures moved { IsMoved self.old self.new result }
+        ensures spends { UnlessShort result (Spends (Y.setting yard.now) (Y.Pass.view pass.old) (Y.Pass.view pass.new)
+            self.old self.new) }
+        ensures steps { StepsOn self.old self.new result }
         ensures caused { IsCaused (Y.setting yard.now) (Y.Pass.view pass.old) (Y.Pass.view pass.new) result }
         ensures alone { IsAtOnce (Y.setting yard.now) (Y.Pass.view pass.old) (Y.Pass.view pass.new) self.old self.new result }
     {
@@ -252,7 +267,8 @@ impl Turn {
     /// exactly where it had ended before, and then the release is done. `Played` comes in the other cases: the line is done,
     /// or its ask was out of locks, so that the release is next with that outcome. A fault is the table's, with its
     /// cause, or want of memory, and never `OutOfLocks`. After `Busy` or `HistoryFull` the line, or the rest of the
-    /// release, stays next, and the turn is played on by a pass that has all the rights. After want of memory the events
+    /// release, stays next, and the turn is played on by a pass that has all the rights. The events that a play makes are
+    /// paid for by what is left of the turn, and each line that is done or held is a step on. After want of memory the events
     /// that were made stand, and the turn is not played any more.
     pub fn play<Y: Yard>(&mut self, yard: &Y, pass: &mut Y::Pass) -> Result<Moved, Fault>
         requires of { Y.Pass.origin pass.old ≡ origin_of (Y.identity yard.now) (Y.setting yard.now) }
@@ -267,6 +283,9 @@ impl Turn {
         ensures plays { UnlessShort result (PlaysOn (Y.setting yard.now) [] (Y.Pass.view pass.old) (Y.Pass.view pass.new)
             self.old self.new) }
         ensures moved { IsMoved self.old self.new result }
+        ensures spends { UnlessShort result (Spends (Y.setting yard.now) (Y.Pass.view pass.old) (Y.Pass.view pass.new)
+            self.old self.new) }
+        ensures steps { StepsOn self.old self.new result }
         ensures caused { IsCaused (Y.setting yard.now) (Y.Pass.view pass.old) (Y.Pass.view pass.new) result }
         ensures alone { IsAtOnce (Y.setting yard.now) (Y.Pass.view pass.old) (Y.Pass.view pass.new) self.old self.new result }
     {

@@ -8,7 +8,9 @@ use Rattle.lt_runner.specs.Plays.{is_big}
 use Rattle.lt_runner.specs.Seats.{idle}
 use Rattle.lt_runner.specs.PlaysOn.{IsFit, PlaysOn}
 use Rattle.lt_runner.specs.PlaysAlone.{play_move}
+use Rattle.lt_runner.specs.Work.{Spends}
 use Rattle.lt_runner.proofs.PlayMoveLaws.{silent_at_once}
+use Rattle.lt_runner.proofs.SpendLaws.{spends_ended}
 use Rattle.lt_runner.proofs.PlaysOnLaws.{plays_ended, plays_grown, fit_ended}
 use Rattle.lt_runner.proofs.turn.Turn.play_line.Goals as goal
 
@@ -86,3 +88,19 @@ returns-in_ok-end_as-in-Abort-clause-alone g c =
     ap (λ (ls : List Line). ended_at ls seat.turn) c.requires.line.1 ∙ ap (λ (d : LineDeed). ended_at (record line { deed = d } ∷ rest) seat.turn) c.in-Abort.is in
     λ may. silent_at_once setting events seat c.end_as-in-Abort.new.self line rest ends c.requires.line.1 (ap (play_move setting events seat.turn) c.in-Abort.is) refl
     (c.in_ok-end_as-in-Abort.ensures.ended ∙ ap idle (sym turn_is))
+
+pub returns-in_ok-end_as-in-End-clause-spends : goal.returns-in_ok-end_as-in-End-clause-spends
+returns-in_ok-end_as-in-End-clause-spends g c =
+    let setting = g.Y.Yard.setting c.args.yard.now in
+    let pass = g.Y.Pass.Pass.view c.args.pass.now in
+    let seat = c.args.self.now in
+    subst (Spends setting pass pass seat) (sym c.in_ok-end_as-in-End.ensures.ended)
+    (spends_ended setting pass seat Done c.args.line.now c.requires.line.0 c.requires.fit c.requires.line.1 c.requires.next.goes).spends
+
+pub returns-in_ok-end_as-in-Abort-clause-spends : goal.returns-in_ok-end_as-in-Abort-clause-spends
+returns-in_ok-end_as-in-Abort-clause-spends g c =
+    let setting = g.Y.Yard.setting c.args.yard.now in
+    let pass = g.Y.Pass.Pass.view c.args.pass.now in
+    let seat = c.args.self.now in
+    subst (Spends setting pass pass seat) (sym c.in_ok-end_as-in-Abort.ensures.ended)
+    (spends_ended setting pass seat Aborted c.args.line.now c.requires.line.0 c.requires.fit c.requires.line.1 c.requires.next.goes).spends

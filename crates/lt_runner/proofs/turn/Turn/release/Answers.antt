@@ -4,9 +4,11 @@ use Rattle.lt_runner.specs.TurnView.{Turn, Seat}
 use Rattle.lt_runner.specs.Turn.{rest_of_release}
 use Rattle.lt_runner.specs.PlaysOn.{IsFit, PlaysOn, UnlessShort}
 use Rattle.lt_runner.proofs.PlaysOnLaws.{plays_not, plays_then, ready_still, unless_then, length_rest}
+use Rattle.lt_runner.specs.Work.{Spends}
 use Rattle.lt_runner.specs.PlaysAlone.{IsCaused, IsFreedAtOnce}
 use Rattle.lt_runner.proofs.NoteLaws.{keeps_notes_itself, keeps_notes_then}
 use Rattle.lt_runner.proofs.PlayMoveLaws.{is_caused_since, with_rest, may_still}
+use Rattle.lt_runner.proofs.SpendLaws.{spends_nothing, spends_then, steps_over}
 use Rattle.lt_runner.proofs.turn.Turn.release.Goals as goal
 
 pub loop-free-init : goal.loop-free-init
@@ -22,6 +24,7 @@ loop-free-init g c =
       free = λ e. e;
       listed = refl;
       noted = keeps_notes_itself setting (g.Y.Pass.Pass.view c.args.pass.now) (g.Y.Pass.Pass.view c.args.pass.now) refl;
+      spends = spends_nothing setting (g.Y.Pass.Pass.view c.args.pass.now) c.args.self.now;
       alone = λ may. (may, refl);
     }
 
@@ -69,6 +72,8 @@ loop-free-preserved g c =
       free = λ e. ap (λ (s : Seat). s.busy) freed;
       listed = ap (λ (s : Seat). s.listed) freed ∙ i.listed;
       noted = keeps_notes_then setting old before new i.noted c.free.ensures.noted;
+      spends = spends_then setting old before new was between is i.spends
+          (subst (λ r. UnlessShort r (Spends setting before new between is)) c.in-Ok.is c.free.ensures.spends);
       alone = λ may.
           let some = c.in-Some.ensures.some in
           let here = i.alone may in
@@ -94,3 +99,18 @@ returns-in-Err-clause-noted g c =
     let setting = g.Y.Yard.setting c.args.yard.now in
     let view = g.Y.Pass.Pass.view in
     keeps_notes_then setting (view c.args.pass.now) (view c.loop-free.pass) (view c.free.new.pass) c.loop-free.invariant.noted c.free.ensures.noted
+
+pub returns-in-Err-clause-spends : goal.returns-in-Err-clause-spends
+returns-in-Err-clause-spends g c =
+    let setting = g.Y.Yard.setting c.args.yard.now in
+    let view = g.Y.Pass.Pass.view in
+    let i = c.loop-free.invariant in
+    let fault = c.in-Err.fault in
+    let was = c.args.self.now in
+    let between = c.loop-free.self in
+    let is = c.free.new.self in
+    let old = view c.args.pass.now in
+    let before = view c.loop-free.pass in
+    let new = view c.free.new.pass in
+    unless_then (Err fault) (λ (s : Spends setting before new between is). spends_then setting old before new was between is i.spends s)
+    (subst (λ r. UnlessShort r (Spends setting before new between is)) c.in-Err.is c.free.ensures.spends)

@@ -2,6 +2,7 @@ use Rattle.std.proofs.Common.{◌≡◌, ◌+◌, [], length, false}
 use Rattle.lt_seq.specs.Yard.{origin_of}
 use Rattle.lt_runner.specs.Notes.{KeepsNotes}
 use Rattle.lt_runner.specs.PlaysOn.{IsReady, IsFit, PlaysOn}
+use Rattle.lt_runner.specs.Work.{Spends}
 use Rattle.lt_runner.specs.PlaysAlone.{MayPlayAtOnce, with_frees}
 use Rattle.lt_runner.proofs.turn.Turn.release.Given as goal
 
@@ -20,6 +21,7 @@ invariant-loop-free g l =
       free : l.fn.self.busy ≡ false → l.self.busy ≡ false;
       listed : l.self.listed ≡ l.fn.self.listed;
       noted : KeepsNotes setting (view l.fn.pass) (view l.pass);
+      spends : Spends setting (view l.fn.pass) (view l.pass) l.fn.self l.self;
       alone : MayPlayAtOnce setting (view l.fn.pass) l.fn.self.turn → MayPlayAtOnce setting (view l.pass) l.self.turn
           × (with_frees setting l.self.turn.txn l.self.turn.releases (view l.pass).front ≡ with_frees setting l.fn.self.turn.txn l.fn.self.turn.releases (view l.fn.pass).front);
     }
