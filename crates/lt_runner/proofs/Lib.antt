@@ -67,3 +67,4 @@ pub mod StartsOnLaws
 pub mod RegisteredLaws
 pub mod WorkLaws
 pub mod SpendLaws
+pub mod StartsCostLaws

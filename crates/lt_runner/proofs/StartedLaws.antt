@@ -86,7 +86,7 @@ reaches_all txn wishes done (w ∷ ws) (r ∷ rs) is =
     let rest = reaches_all txn wishes (done ++ w ∷ []) (ws ++ new_wishes txn (done ++ w ∷ ws) (wishes_of (named_in r.event.deed) wishes)) rs is.1 in
     record { asked = rest.asked; reaches = (is.0, rest.reaches) }
 
-few_questions : (txn : ℕ) (wishes : List Wish) (owners : List ℕ) (rs : List Receipt) → Ascend wishes → IsSearch txn wishes [] (wishes_of owners wishes) rs → length rs ≤ length wishes
+pub few_questions : (txn : ℕ) (wishes : List Wish) (owners : List ℕ) (rs : List Receipt) → Ascend wishes → IsSearch txn wishes [] (wishes_of owners wishes) rs → length rs ≤ length wishes
 few_questions txn wishes owners rs ascend is =
     let all = reaches_all txn wishes [] (wishes_of owners wishes) rs is in
     let few = few_asked txn wishes owners all.asked [] rs ascend all.reaches in omega (arith, few)

@@ -34,7 +34,7 @@ flag_most false = omega arith
 owed_push : (r : Recorded) (range : Interval) (buffered : Bool) → owed_in (record { ranges = r.ranges ++ range ∷ []; buffered = buffered }) ≤ owed_in r + 2
 owed_push r range buffered = omega (arith, length-append r.ranges (range ∷ []), flag_most buffered)
 
-owed_granted : (tree : ℕ) (range : Interval) (buffered : Bool) (turn : Turn) → owed (granted_to tree range buffered turn).recorded ≤ owed turn.recorded + 2
+pub owed_granted : (tree : ℕ) (range : Interval) (buffered : Bool) (turn : Turn) → owed (granted_to tree range buffered turn).recorded ≤ owed turn.recorded + 2
 owed_granted tree range buffered turn = owed_set turn.recorded tree _ (owed_push (get_or turn.recorded tree nothing_recorded) range buffered)
 
 -- no more frees than are owed
@@ -58,7 +58,7 @@ length-from tree (r ∷ rs) = omega (arith, length-append (releases_in tree r) (
 abbrev tries : ℕ → Bool → Bool → ℕ
 tries trees waits busy = if waits then 0 else trees + 1 + (if busy then 0 else trees)
 
-open_work : (setting : Setting) (seat : Seat) → is_some seat.turn.outcome ≡ false →
+pub open_work : (setting : Setting) (seat : Seat) → is_some seat.turn.outcome ≡ false →
     work setting seat ≡ lines_work setting.plan.trees seat.turn.lines + owed seat.turn.recorded + tries setting.plan.trees seat.turn.waits seat.busy
 open_work setting seat e = ap (λ (b : Bool). if b then length seat.turn.releases else lines_work setting.plan.trees seat.turn.lines + owed seat.turn.recorded + tries_work setting seat) e
 

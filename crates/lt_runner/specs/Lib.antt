@@ -25,3 +25,4 @@ pub mod Transcript
 pub mod StartsOn
 pub mod Listed
 pub mod Work
+pub mod StartsCost

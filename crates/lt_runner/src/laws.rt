@@ -12,6 +12,7 @@ ghost use Rattle.lt_runner.specs.Run.{IsRunText};
 ghost use Rattle.lt_runner.specs.Serial.{ran_text, serial, setting_of};
 ghost use Rattle.lt_runner.specs.Listed.{SeatsAsk, RegistriesStay, SeatsStayFit};
 ghost use Rattle.lt_runner.specs.Settles.{SweepsSettleOne};
+ghost use Rattle.lt_runner.specs.StartsCost.{StartsAreSteps};
 ghost use Rattle.lt_runner.specs.StartsOn.{StartsPlayOn};
 
 /// The plain scheduler writes the worked examples' texts.
@@ -93,4 +94,10 @@ pub fn registries_stay()
 /// Behind the answer of a start or a retry the transaction may be played on.
 pub fn seats_stay_fit()
     ensures { SeatsStayFit }
+{}
+
+/// A start or a retry of one that waits makes, besides what is paid for, no more events than the joins of all trees, an ask
+/// and a question for each that is registered; and where the transaction does not wait on it is a step on.
+pub fn starts_are_steps()
+    ensures { StartsAreSteps }
 {}
