@@ -68,3 +68,4 @@ pub mod RegisteredLaws
 pub mod WorkLaws
 pub mod SpendLaws
 pub mod StartsCostLaws
+pub mod RetriesLaws

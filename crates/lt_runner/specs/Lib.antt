@@ -26,3 +26,4 @@ pub mod StartsOn
 pub mod Listed
 pub mod Work
 pub mod StartsCost
+pub mod Retries

@@ -11,6 +11,7 @@ ghost use Rattle.lt_runner.specs.Rows.{Rows};
 ghost use Rattle.lt_runner.specs.Run.{IsRunText};
 ghost use Rattle.lt_runner.specs.Serial.{ran_text, serial, setting_of};
 ghost use Rattle.lt_runner.specs.Listed.{SeatsAsk, RegistriesStay, SeatsStayFit};
+ghost use Rattle.lt_runner.specs.Retries.{RetriesAreHeld, RetriesSettleOne};
 ghost use Rattle.lt_runner.specs.Settles.{SweepsSettleOne};
 ghost use Rattle.lt_runner.specs.StartsCost.{StartsAreSteps};
 ghost use Rattle.lt_runner.specs.StartsOn.{StartsPlayOn};
@@ -100,4 +101,14 @@ pub fn seats_stay_fit()
 /// and a question for each that is registered; and where the transaction does not wait on it is a step on.
 pub fn starts_are_steps()
     ensures { StartsAreSteps }
+{}
+
+/// A retry of a crew's caller that was held again is the plain scheduler's, where exactly those that wait are registered.
+pub fn retries_are_held()
+    ensures { RetriesAreHeld }
+{}
+
+/// Where a transaction waits and every pair is owned by one that waits, a pass of retries grants or ends at least one.
+pub fn retries_settle_one()
+    ensures { RetriesSettleOne }
 {}
