@@ -200,7 +200,7 @@ freed_due Old New txn range (p ∷ ps) each due = by_test (is_own txn range p) r
     by_test true e rest = rest
     by_test false e rest = (each p e due.0, rest)
 
-after_free_due : (Old New : ℕ → List Interval) (txn : ℕ) (range : Interval) (first : Bool) (t : TreeState) →
+pub after_free_due : (Old New : ℕ → List Interval) (txn : ℕ) (range : Interval) (first : Bool) (t : TreeState) →
     ((p : Pair) → is_own txn range p ≡ false → OverlapsOne p.range (Old p.owner) → OverlapsOne p.range (New p.owner)) → AreDue Old t.pairs →
     AreDue New (after_free txn range first t).pairs
 after_free_due Old New txn range first t each due = by_test (drops_all txn range t.mode)
@@ -215,7 +215,7 @@ after_free_due Old New txn range first t each due = by_test (drops_all txn range
     by_test true = tt
     by_test false = freed_due Old New txn range t.pairs each due
 
-not_overlapping : (txn : ℕ) (range : Interval) (p : Pair) → is_own txn range p ≡ false → p.owner ≡ txn → overlap p.range range ≡ false
+pub not_overlapping : (txn : ℕ) (range : Interval) (p : Pair) → is_own txn range p ≡ false → p.owner ≡ txn → overlap p.range range ≡ false
 not_overlapping txn range p e own = by_tests (p.owner == txn) (overlap p.range range) (eq-eqb p.owner txn own) e
   where
     by_tests : (a b : Bool) → a ≡ true → (a && b) ≡ false → b ≡ false

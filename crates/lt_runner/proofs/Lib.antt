@@ -69,3 +69,4 @@ pub mod WorkLaws
 pub mod SpendLaws
 pub mod StartsCostLaws
 pub mod RetriesLaws
+pub mod StandingLaws

@@ -27,3 +27,4 @@ pub mod Listed
 pub mod Work
 pub mod StartsCost
 pub mod Retries
+pub mod Standing

@@ -1,5 +1,6 @@
 //! Laws of runs.
 ghost use Rattle.lt_runner.specs.Nothing.{ReleasesLeaveNothing, RunsLeaveNothing};
+ghost use Rattle.lt_runner.specs.Standing.{SeatsStand};
 ghost use Rattle.lt_runner.specs.StartsAlone.{StartsAreMoves};
 ghost use Rattle.std.specs.Prelude.{ℕ, false};
 ghost use Rattle.lt_trace.specs.Grammar.{IsTrace};
@@ -111,4 +112,9 @@ pub fn retries_are_held()
 /// Where a transaction waits and every pair is owned by one that waits, a pass of retries grants or ends at least one.
 pub fn retries_settle_one()
     ensures { RetriesSettleOne }
+{}
+
+/// A transaction of a crew that stands half played has a steady turn, and until it has ended the line that ends it is left.
+pub fn seats_stand()
+    ensures { SeatsStand }
 {}

@@ -1,0 +1,39 @@
+-- What is known of a transaction of a crew that stands half played: what its turn is, and what it holds.
+use Rattle.std.specs.Prelude.{◌≡◌, ℕ, ◌<◌, List, map, is_some, true, false}
+use Rattle.std.specs.List.{AllByRecursion}
+use Rattle.std.specs.List.Sorted.{IsStrictlySortedBy}
+use Rattle.std.specs.Ordering.{nat_cmp}
+use Rattle.lt_seq.specs.declared.event.Event.{Event}
+use Rattle.lt_seq.specs.Table.{Setting, tree_at}
+use Rattle.lt_seq.specs.History.{after, IsLegal}
+use Rattle.lt_trace.specs.declared.line.Line.{Line}
+use Rattle.lt_runner.specs.TurnView.{Turn, Seat}
+use Rattle.lt_runner.specs.Plays.{has_last}
+use Rattle.lt_runner.specs.Played.{Search, Stands}
+use Rattle.lt_runner.specs.Due.{OverlapsOne, due_in}
+use Rattle.lt_runner.specs.Steps.{IsSteady, IsFitDeed}
+
+-- the deeds of the lines may be done over the table
+abbrev pub AreFitDeeds : Setting → List Line → Type 0
+AreFitDeeds setting lines = AllByRecursion (λ line. IsFitDeed setting line.deed) lines
+
+-- Its turn is steady, and until it has ended the line that ends it is left.
+pub record IsStanding (setting : Setting) (turn : Turn) : Type 0 where
+  pub steady : IsSteady setting turn
+  pub last : is_some turn.outcome ≡ false → has_last turn.lines ≡ true
+
+abbrev pub SeatsStand : Type 0
+SeatsStand =
+    (setting : Setting) (searches : List Search) (lines : List Line) (history : List Event) (seat : Seat)
+    → AreFitDeeds setting lines → Stands true setting searches lines history seat → IsStanding setting seat.turn
+
+-- each pair of the transaction in the tree overlaps a range that it is to give back
+abbrev pub OwnsDue : Setting → List Event → Turn → ℕ → Type 0
+OwnsDue setting history turn tree =
+    AllByRecursion (λ p. p.owner ≡ turn.txn → OverlapsOne p.range (due_in tree turn)) (tree_at (after setting history) tree).pairs
+
+abbrev pub SeatsOwnDue : Type 0
+SeatsOwnDue =
+    (setting : Setting) (searches : List Search) (lines : List Line) (history : List Event) (seat : Seat)
+    → AreFitDeeds setting lines → IsLegal setting history → Stands true setting searches lines history seat
+    → (tree : ℕ) → OwnsDue setting history seat.turn tree
