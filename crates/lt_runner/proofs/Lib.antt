@@ -70,3 +70,4 @@ pub mod SpendLaws
 pub mod StartsCostLaws
 pub mod RetriesLaws
 pub mod StandingLaws
+pub mod HoldLaws

@@ -1,5 +1,5 @@
 -- What is known of a transaction of a crew that stands half played: what its turn is, and what it holds.
-use Rattle.std.specs.Prelude.{◌≡◌, ℕ, ◌<◌, List, map, is_some, true, false}
+use Rattle.std.specs.Prelude.{◌≡◌, ◌⊎◌, ℕ, List, map, is_some, true, false}
 use Rattle.std.specs.List.{AllByRecursion}
 use Rattle.std.specs.List.Sorted.{IsStrictlySortedBy}
 use Rattle.std.specs.Ordering.{nat_cmp}
@@ -7,11 +7,15 @@ use Rattle.lt_seq.specs.declared.event.Event.{Event}
 use Rattle.lt_seq.specs.Table.{Setting, tree_at}
 use Rattle.lt_seq.specs.History.{after, IsLegal}
 use Rattle.lt_trace.specs.declared.line.Line.{Line}
+use Rattle.lt_trace.specs.Grammar.{txns_of}
 use Rattle.lt_runner.specs.TurnView.{Turn, Seat}
 use Rattle.lt_runner.specs.Plays.{has_last}
-use Rattle.lt_runner.specs.Played.{Search, Stands}
+use Rattle.lt_runner.specs.Played.{Search, Stands, IsOver, AllStand}
 use Rattle.lt_runner.specs.Due.{OverlapsOne, due_in}
-use Rattle.lt_runner.specs.Steps.{IsSteady, IsFitDeed}
+use Rattle.lt_runner.specs.Steps.{IsSteady, IsFitDeed, IsInOrder}
+use Rattle.lt_runner.specs.Serial.{game_at}
+use Rattle.lt_runner.specs.Settles.{OwnersWait}
+use Rattle.lt_runner.specs.Board.{turns_of}
 
 -- the deeds of the lines may be done over the table
 abbrev pub AreFitDeeds : Setting → List Line → Type 0
@@ -37,3 +41,16 @@ SeatsOwnDue =
     (setting : Setting) (searches : List Search) (lines : List Line) (history : List Event) (seat : Seat)
     → AreFitDeeds setting lines → IsLegal setting history → Stands true setting searches lines history seat
     → (tree : ℕ) → OwnsDue setting history seat.turn tree
+
+-- each waits, or has ended and given back all
+abbrev pub AllWaitOrAreOver : List Seat → Type 0
+AllWaitOrAreOver seats = AllByRecursion (λ seat. (seat.turn.waits ≡ true) ⊎ IsOver seat) seats
+
+-- Where it is so, every pair is owned by one that waits, as a pass of retries needs it.
+abbrev pub WaitingOwnAll : Type 0
+WaitingOwnAll =
+    (setting : Setting) (searches : List Search) (lines : List Line) (history : List Event) (seats : List Seat)
+    → AreFitDeeds setting lines → IsStrictlySortedBy nat_cmp (txns_of lines) → AllStand true setting searches lines history seats
+    → AllWaitOrAreOver seats
+    → (let turns = turns_of seats in
+    IsInOrder setting (map (λ t. t.txn) turns) (game_at history turns false) × OwnersWait setting (game_at history turns false))

@@ -1,6 +1,6 @@
 //! Laws of runs.
 ghost use Rattle.lt_runner.specs.Nothing.{ReleasesLeaveNothing, RunsLeaveNothing};
-ghost use Rattle.lt_runner.specs.Standing.{SeatsStand};
+ghost use Rattle.lt_runner.specs.Standing.{SeatsStand, SeatsOwnDue, WaitingOwnAll};
 ghost use Rattle.lt_runner.specs.StartsAlone.{StartsAreMoves};
 ghost use Rattle.std.specs.Prelude.{ℕ, false};
 ghost use Rattle.lt_trace.specs.Grammar.{IsTrace};
@@ -117,4 +117,14 @@ pub fn retries_settle_one()
 /// A transaction of a crew that stands half played has a steady turn, and until it has ended the line that ends it is left.
 pub fn seats_stand()
     ensures { SeatsStand }
+{}
+
+/// Each pair of such a transaction overlaps a range that it is to give back, whatever others did between.
+pub fn seats_own_due()
+    ensures { SeatsOwnDue }
+{}
+
+/// Where each transaction of a crew waits, or has ended and given back all, every pair is owned by one that waits.
+pub fn waiting_own_all()
+    ensures { WaitingOwnAll }
 {}
