@@ -71,3 +71,4 @@ pub mod StartsCostLaws
 pub mod RetriesLaws
 pub mod StandingLaws
 pub mod HoldLaws
+pub mod CrewCostLaws

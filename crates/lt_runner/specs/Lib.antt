@@ -28,3 +28,4 @@ pub mod Work
 pub mod StartsCost
 pub mod Retries
 pub mod Standing
+pub mod CrewCost

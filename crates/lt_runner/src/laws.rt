@@ -11,6 +11,7 @@ ghost use Rattle.lt_runner.specs.RandomTraces.{RandomTraces};
 ghost use Rattle.lt_runner.specs.Rows.{Rows};
 ghost use Rattle.lt_runner.specs.Run.{IsRunText};
 ghost use Rattle.lt_runner.specs.Serial.{ran_text, serial, setting_of};
+ghost use Rattle.lt_runner.specs.CrewCost.{CrewsMakeFew};
 ghost use Rattle.lt_runner.specs.Listed.{SeatsAsk, RegistriesStay, SeatsStayFit};
 ghost use Rattle.lt_runner.specs.Retries.{RetriesAreHeld, RetriesSettleOne};
 ghost use Rattle.lt_runner.specs.Settles.{SweepsSettleOne};
@@ -127,4 +128,9 @@ pub fn seats_own_due()
 /// Where each transaction of a crew waits, or has ended and given back all, every pair is owned by one that waits.
 pub fn waiting_own_all()
     ensures { WaitingOwnAll }
+{}
+
+/// With one pass of retries for each step, and the events that are paid for, a crew's run makes no more events than its bound.
+pub fn crews_make_few()
+    ensures { CrewsMakeFew }
 {}
