@@ -1,7 +1,9 @@
 -- Retries that are held again are the plain scheduler's, so a pass of them settles one.
-use Rattle.std.proofs.Common.{◌≡◌, ℕ, ◌+◌, ◌<◌, ◌≤◌, List, [], ◌∷◌, ◌++◌, map, Bool, true, false, ◌==◌, ◌&&◌, not, if◌then◌else◌, Option, Some, None, is_some, is_none, Ok}
+use Rattle.std.proofs.Common.{◌≡◌, ◌⊎◌, inl, inr, ℕ, ◌+◌, ◌<◌, ◌≤◌, List, [], ◌∷◌, ◌++◌, map, Bool, true, false, ◌==◌, ◌&&◌, not, if◌then◌else◌, Option, Some, None, is_some, is_none, Ok}
 use Rattle.std.proofs.Common.{length, nat_cmp, refl, sym, ap, subst, ◌∙◌, arith}
-use Rattle.std.specs.List.{AllByRecursion, fold}
+use Rattle.std.specs.List.{AllByRecursion, cons_option, fold}
+use Rattle.std.proofs.lemmas.List.Sums.{fold-append}
+use Rattle.lt_seq.proofs.NumbersLaws.{increasing_from}
 use Rattle.std.specs.List.Sorted.{IsStrictlySortedBy}
 use Rattle.std.proofs.lemmas.Bool.Decides.{nat_tests}
 use Rattle.lt_ranges.specs.Numbers.{is_in}
@@ -16,7 +18,7 @@ use Rattle.lt_requests.specs.declared.wish.Wish.{Wish}
 use Rattle.lt_requests.specs.declared.started.Started.TheVariants.{Waits}
 use Rattle.lt_requests.specs.Registered.{Ascend}
 use Rattle.lt_requests.specs.Started.{IsStarted}
-use Rattle.lt_runner.specs.TurnView.{Turn}
+use Rattle.lt_runner.specs.TurnView.{Turn, Seat}
 use Rattle.lt_runner.specs.Turn.{Move, receipts_in, turn_after}
 use Rattle.lt_runner.specs.Attempt.{bar_of}
 use Rattle.lt_runner.specs.Plays.{next_wish}
@@ -24,10 +26,13 @@ use Rattle.lt_runner.specs.Serial.{Game, game_at, turn_of, with_turn, is_waiting
 use Rattle.lt_runner.specs.Steps.{IsSteady, IsInOrder}
 use Rattle.lt_runner.specs.Settles.{OwnersWait, IsSettled}
 use Rattle.lt_runner.specs.StartsAlone.{MayStartAtOnce, IsLockMove}
-use Rattle.lt_runner.specs.Retries.{AreHeldAgain}
+use Rattle.lt_runner.specs.Board.{turns_of, seat_so}
+use Rattle.lt_runner.specs.Listed.{IsRegistryOf, listed_in}
+use Rattle.lt_runner.specs.Retries.{AreHeldAgain, AllWaitersListed}
 use Rattle.lt_runner.proofs.ChoiceLaws.{on_true, on_false}
 use Rattle.lt_runner.proofs.SteadyLaws.{turn_has}
 use Rattle.lt_runner.proofs.WishLaws.{IsPlaced, all_placed}
+use Rattle.lt_runner.proofs.AskLaws.{wishes_rise}
 use Rattle.lt_runner.proofs.LockMoveLaws.{HasLock, has_lock}
 use Rattle.lt_runner.proofs.StartedLaws.{started_at_once}
 use Rattle.lt_runner.proofs.SettlesLaws.{settles_one}
@@ -138,3 +143,34 @@ retries_settle_one setting turns from now txn passes order legal owners number h
     let past : length (turn_of setting settled.txn turns).lines < length (turn_of setting settled.txn turns).lines =
     subst (λ (g : Game). length (turn_of setting settled.txn g.turns).lines < length (turn_of setting settled.txn turns).lines) again settled.past_it in
     omega (arith, past)
+
+pub retries_go_on : (setting : Setting) (turns : List Turn) (done : List ℕ) (txn : ℕ) (from mid now : List Event) → AreHeldAgain setting turns done from mid →
+    (retried setting (game_at mid turns false) txn ≡ game_at now turns false) ⊎ ((is_waiting (turn_of setting txn turns) ≡ false) × (now ≡ mid)) →
+    AreHeldAgain setting turns (done ++ txn ∷ []) from now
+retries_go_on setting turns done txn from mid now so_far one =
+    fold-append (retried setting) (game_at from turns false) done (txn ∷ []) ∙ ap (λ (g : Game). retried setting g txn) so_far ∙ by_case one
+  where
+    by_case : (retried setting (game_at mid turns false) txn ≡ game_at now turns false) ⊎ ((is_waiting (turn_of setting txn turns) ≡ false) × (now ≡ mid)) →
+        retried setting (game_at mid turns false) txn ≡ game_at now turns false
+    by_case (inl held) = held
+    by_case (inr (quiet, same)) =
+        on_false (is_waiting (turn_of setting txn turns)) _ (game_at mid turns false) quiet ∙ ap (λ (es : List Event). game_at es turns false) (sym same)
+
+listed_same : (seats : List Seat) → AllWaitersListed seats → listed_in seats ≡ wishes_in (turns_of seats)
+listed_same [] all = refl
+listed_same (s ∷ ss) all =
+    ap (λ (b : Bool). cons_option (if b then next_wish s.turn.txn s.turn.lines else None) (listed_in ss)) all.0
+    ∙ ap (cons_option (if s.turn.waits then next_wish s.turn.txn s.turn.lines else None)) (listed_same ss all.1)
+
+numbers_same : (seats : List Seat) → map (λ (t : Turn). t.txn) (turns_of seats) ≡ map (λ (s : Seat). s.turn.txn) seats
+numbers_same [] = refl
+numbers_same (s ∷ ss) = ap (λ (ns : List ℕ). s.turn.txn ∷ ns) (numbers_same ss)
+
+pub listed_are_waiters : (registry : List Wish) (seats : List Seat) → IsRegistryOf registry seats → AllWaitersListed seats → (registry ≡ wishes_in (turns_of seats)) × Ascend registry
+listed_are_waiters registry seats is all =
+    let same = is.all ∙ listed_same seats all in
+    (same, subst Ascend (sym same) (increasing_from _ (wishes_rise (turns_of seats) (subst (IsStrictlySortedBy nat_cmp) (sym (numbers_same seats)) is.sorted))))
+
+pub held_seats_stay : (seat : Seat) (owners : List ℕ) → seat.turn.waits ≡ true → seat.busy ≡ false → seat.listed ≡ seat.turn.waits → seat_so seat.turn (Ok (Waits owners)) ≡ seat
+held_seats_stay seat owners held free listed =
+    λ j. record { turn = waits_still seat.turn held j; busy = sym free j; listed = sym (listed ∙ held) j }

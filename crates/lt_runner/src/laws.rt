@@ -13,7 +13,7 @@ ghost use Rattle.lt_runner.specs.Run.{IsRunText};
 ghost use Rattle.lt_runner.specs.Serial.{ran_text, serial, setting_of};
 ghost use Rattle.lt_runner.specs.CrewCost.{CrewsMakeFew};
 ghost use Rattle.lt_runner.specs.Listed.{SeatsAsk, RegistriesStay, SeatsStayFit};
-ghost use Rattle.lt_runner.specs.Retries.{RetriesAreHeld, RetriesSettleOne};
+ghost use Rattle.lt_runner.specs.Retries.{RetriesAreHeld, RetriesSettleOne, RetriesGoOn, ListedAreWaiters, HeldSeatsStay};
 ghost use Rattle.lt_runner.specs.Settles.{SweepsSettleOne};
 ghost use Rattle.lt_runner.specs.StartsCost.{StartsAreSteps};
 ghost use Rattle.lt_runner.specs.StartsOn.{StartsPlayOn};
@@ -133,4 +133,12 @@ pub fn waiting_own_all()
 /// With one pass of retries for each step, and the events that are paid for, a crew's run makes no more events than its bound.
 pub fn crews_make_few()
     ensures { CrewsMakeFew }
+{}
+
+/// Such retries go on one by one: the registry is the plain scheduler's where each that waits is registered, a retry that was
+/// held again leaves its seat, and one that does not wait is passed over.
+pub fn retries_go_on()
+    ensures on { RetriesGoOn }
+    ensures registry { ListedAreWaiters }
+    ensures seat { HeldSeatsStay }
 {}
