@@ -206,6 +206,16 @@ impl Turn {
         Ok(())
     }
 
+    /// The number of its next line, as the trace has it, and 0 for an end without a line. None where no line is left.
+    pub fn next_number(&self) -> Option<u32>
+        ensures some { IfSome result (λ number. (line : LineOf) × (rest : List LineOf) × (self.now.turn.lines ≡ line ∷ rest)
+            × (line.number ≡ number)) }
+        ensures none { IfNone result (self.now.turn.lines ≡ []) }
+    {
+        let line = self.lines.front()?;
+        Some(line.number)
+    }
+
     /// The line that is next.
     pub(crate) fn next_line(&self) -> Option<Line>
         ensures some { IfSome result (λ line. (rest : List LineOf) × (self.now.turn.lines ≡ line ∷ rest)) }
