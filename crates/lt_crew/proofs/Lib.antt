@@ -1,0 +1,7 @@
+pub mod OwnLaws
+pub mod PlaysAllLaws
+pub mod RoundLaws
+pub mod StandLaws
+pub mod CrewRunLaws
+pub mod PairLaws
+pub mod WorkerLaws

@@ -1,0 +1,36 @@
+-- Lists whose elements are changed one by one.
+use Rattle.std.proofs.Common.{◌≡◌, ◌≢◌, ◌⊎◌, ℕ, ◌+◌, ◌≤◌, ◌<◌, List, length, get_or, set, refl, sym, ◌∙◌, arith, inl, inr}
+use Rattle.std.proofs.lemmas.Bool.{cases_eq}
+use Rattle.std.proofs.lemmas.List.{get_or-set_same, get_or-set_other, length-set, get_or_default}
+use Rattle.lt_crew.specs.Workers.{UpTo, EachPair, AllBelow}
+
+module _ {X : Type 0} where
+  pub up_to_none : (R : X → X → Type 0) (xs : List X) → UpTo R 0 xs xs
+  up_to_none R xs = record { len = refl; below = λ k d h. absurd (omega arith); rest = λ k d h. refl }
+
+  -- one more element
+  pub up_to_more : (R : X → X → Type 0) (i : ℕ) (old cur : List X) (was x : X) → UpTo R i old cur → i < length cur → was ≡ get_or cur i was → R (get_or cur i was) x → UpTo R (i + 1) old (set cur i x)
+  up_to_more R i old cur was x u h at r =
+      let same : (d : X) → get_or old i d ≡ get_or cur i was = λ d. sym (u.rest i d (omega arith)) ∙ get_or_default cur i d was h in
+      record {
+        len = length-set cur i x ∙ u.len;
+        below = λ k d p q. go k d (cases_eq k i) p q same;
+        rest = λ k d p. let ne : k ≢ i = omega arith in get_or-set_other cur i k x d ne ∙ u.rest k d (omega arith);
+      }
+    where
+      go : (k : ℕ) (d : X) → (k ≡ i) ⊎ (k ≢ i) → k < i + 1 → k < length old → ((e : X) → get_or old i e ≡ get_or cur i was) → R (get_or old k d) (get_or (set cur i x) k d)
+      go k d (inl e) p q same = rw (e, get_or-set_same cur i x d h, same d) r
+      go k d (inr ne) p q same = rw (get_or-set_other cur i k x d ne) (u.below k d (omega arith) q)
+
+  pub up_to_all : (R : X → X → Type 0) (n : ℕ) (old new : List X) → UpTo R n old new → length old ≤ n → EachPair R old new
+  up_to_all R n old new u h = (u.len, λ k d p. u.below k d (omega arith) p)
+
+  pub below_set : (P : X → Type 0) (i : ℕ) (xs : List X) (x : X) → AllBelow P i xs → P x → AllBelow P (i + 1) (set xs i x)
+  below_set P i xs x a px k d p q = go (cases_eq k i)
+    where
+      go : (k ≡ i) ⊎ (k ≢ i) → P (get_or (set xs i x) k d)
+      go (inl e) = rw (e, get_or-set_same xs i x d (rw (e, length-set) at q)) px
+      go (inr ne) = rw (get_or-set_other xs i k x d ne) (a k d (omega arith) (rw length-set at q))
+
+  pub below_weaker : (P Q : X → Type 0) (i : ℕ) (xs : List X) → ((x : X) → P x → Q x) → AllBelow P i xs → AllBelow Q i xs
+  below_weaker P Q i xs w a k d p q = w _ (a k d p q)

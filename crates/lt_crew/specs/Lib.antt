@@ -1,0 +1,3 @@
+pub mod Crew
+pub mod Workers
+pub mod Rounds

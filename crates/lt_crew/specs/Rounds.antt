@@ -1,0 +1,88 @@
+-- Runs of a crew: rounds of its workers, and turns of its caller, from the opening to the end.
+use Rattle.std.specs.Prelude.{◌≡◌, ◌≢◌, ℕ, ◌<◌, ◌≤◌, List, [], ◌∷◌, ◌++◌, map, length, slice_index_or, true, Some, IfSome, IsTrue}
+use Rattle.std.specs.List.{AllByRecursion, filter_map}
+use Rattle.lt_ranges.specs.Numbers.{is_in}
+use Rattle.lt_seq.specs.declared.event.Event.{Event}
+use Rattle.lt_seq.specs.Table.{Setting}
+use Rattle.lt_seq.specs.Yard.{place_after}
+use Rattle.lt_trace.specs.declared.line.Line.{Line}
+use Rattle.lt_trace.specs.Grammar.{txns_of}
+use Rattle.lt_requests.specs.declared.wish.Wish.{Wish}
+use Rattle.lt_runner.specs.TurnView.{Seat}
+use Rattle.lt_runner.specs.Seats.{opening_seat}
+use Rattle.lt_runner.specs.Plays.{lines_for, next_wish, wish_in}
+use Rattle.lt_runner.specs.Played.{Search, AllStand, IsOver}
+use Rattle.lt_runner.specs.Run.{Play, IsRun, ended_as}
+use Rattle.lt_runner.specs.Serial.{ended_in}
+use Rattle.lt_crew.specs.Crew.{numbers_in, IsRound, only}
+
+-- what a round made of a transaction: a pass played it, or it stayed
+pub data IsMoved : Setting → (ℕ → List Seat) → (ℕ → List Seat) → Seat → Seat → Type 0 where
+  -- it was dealt to this pass, at this place
+  played : {setting : Setting} {were are : ℕ → List Seat} {was is : Seat} (pass i : ℕ) → pass < setting.plan.passes
+      → i < length (were pass) → was ≡ slice_index_or (were pass) i was → is ≡ slice_index_or (are pass) i was
+      → IsMoved setting were are was is
+  -- it was dealt to none
+  stayed : {setting : Setting} {were are : ℕ → List Seat} {was is : Seat} → is ≡ was
+      → ((pass : ℕ) → IsTrue (is_in was.turn.txn (numbers_in (were pass))) → ⊥) → IsMoved setting were are was is
+
+-- all of them
+abbrev pub AreMoved : Setting → (ℕ → List Seat) → (ℕ → List Seat) → List Seat → List Seat → Type 0
+AreMoved setting were are [] [] = Unit {0}
+AreMoved setting were are [] (is ∷ later) = ⊥
+AreMoved setting were are (was ∷ before) [] = ⊥
+AreMoved setting were are (was ∷ before) (is ∷ later) = IsMoved setting were are was is × AreMoved setting were are before later
+
+-- what was dealt is of the trace
+abbrev pub AreOfTrace : List Line → (ℕ → List Seat) → Type 0
+AreOfTrace lines were = (pass txn : ℕ) → IsTrue (is_in txn (numbers_in (were pass))) → IsTrue (is_in txn (txns_of lines))
+
+-- the transactions of a trace, none of them begun
+abbrev pub opening_seats : Setting → List Line → List Seat
+opening_seats setting lines = map (λ txn. opening_seat setting.plan.trees txn (lines_for txn lines)) (txns_of lines)
+
+-- A transaction is listed rightly among these wishes: one that has a wish there waits for it, and one that is registered has its own.
+pub record IsListedNow (wishes : List Wish) (seat : Seat) : Type 0 where
+  pub waits : IfSome (wish_in seat.turn.txn wishes)
+      (λ wish. IsTrue seat.turn.waits × (next_wish seat.turn.txn seat.turn.lines ≡ Some wish))
+  pub listed : seat.listed ≡ true → wish_in seat.turn.txn wishes ≡ next_wish seat.turn.txn seat.turn.lines
+
+-- A search of the caller's for one transaction: it comes behind these events and is of the history, and each other transaction is listed
+-- rightly in it.
+pub record IsSearchOf (setting : Setting) (search_made : Search) (before history : List Event) (was : Seat) (seats : List Seat) : Type 0 where
+  pub txn : search_made.txn ≡ was.turn.txn
+  pub behind : place_after setting before ≤ search_made.place
+  pub inside : search_made.place < place_after setting history
+  pub others : AllByRecursion (λ seat. seat.turn.txn ≢ was.turn.txn → IsListedNow search_made.wishes seat) seats
+
+-- Where rounds lead from the opening on, and all searches that were made. The caller's turn with one transaction is a round in which it
+-- alone plays.
+pub data AreRounds : Setting → List Line → List Search → List Event → List Seat → Type 0 where
+  -- nothing was played yet
+  opened : {setting : Setting} {lines : List Line} {searches : List Search} {history : List Event} {seats : List Seat}
+      → searches ≡ [] → history ≡ [] → seats ≡ opening_seats setting lines → AreRounds setting lines searches history seats
+  -- a round without a search
+  worked : {setting : Setting} {lines : List Line} {searches : List Search} {before history : List Event} {old new : List Seat}
+      (were are : ℕ → List Seat) → AreRounds setting lines searches before old → IsRound setting [] before history were are
+      → AreMoved setting were are old new → AreOfTrace lines were → AreRounds setting lines searches history new
+  -- a turn of the caller with a search
+  searched : {setting : Setting} {lines : List Line} {searches : List Search} {before history : List Event} {old new : List Seat}
+      (was is : Seat) (made : Search) → AreRounds setting lines searches before old
+      → IsRound setting (made ∷ []) before history (only was) (only is) → AreMoved setting (only was) (only is) old new
+      → AreOfTrace lines (only was) → IsSearchOf setting made before history was old
+      → AreRounds setting lines (searches ++ made ∷ []) history new
+
+-- behind rounds all transactions stand as far as they came
+abbrev pub RoundsStand : Type 0
+RoundsStand =
+    (setting : Setting) (lines : List Line) (searches : List Search) (history : List Event) (seats : List Seat)
+    → AreRounds setting lines searches history seats → AllStand true setting searches lines history seats
+
+-- Where all are over behind rounds, what was done is a run of a crew: one legal history, in which each transaction's play stands once and
+-- in its order, and no other has an event. Each ended as its turn tells.
+abbrev pub RoundsAreARun : Type 0
+RoundsAreARun =
+    (setting : Setting) (lines : List Line) (searches : List Search) (history : List Event) (seats : List Seat)
+    → AreRounds setting lines searches history seats → AllByRecursion IsOver seats
+    → (plays : List Play) × IsRun true setting lines history plays
+    × (map ended_as plays ≡ filter_map ended_in (map (λ s. s.turn) seats))

@@ -1,0 +1,16 @@
+//! Laws of crews.
+ghost use Rattle.lt_crew.specs.Rounds.{RoundsAreARun, RoundsStand};
+
+/// Behind rounds each transaction of the trace has come as far as its own events of the one legal history tell, and no
+/// other has an event.
+#[tactic(auto, using(crate::proofs::CrewRunLaws::rounds_stand))]
+pub fn rounds_stand()
+    ensures { RoundsStand }
+{}
+
+/// Where all are over behind rounds, what was done is the run of a crew: one legal history with each transaction's play
+/// once and in its order, no event of another, and each search among those that waited.
+#[tactic(auto, using(crate::proofs::CrewRunLaws::rounds_are_a_run))]
+pub fn rounds_are_a_run()
+    ensures { RoundsAreARun }
+{}
