@@ -5,3 +5,4 @@ pub mod StandLaws
 pub mod CrewRunLaws
 pub mod PairLaws
 pub mod WorkerLaws
+pub mod ResultLaws

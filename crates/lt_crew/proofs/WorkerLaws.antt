@@ -94,7 +94,7 @@ module _ {P : Type 0} (origin : P → Origin) (view : P → PassView) (place : O
   played_is : (history : List Event) (a b c d : Worker P) → HasWorked origin view place setting a b → b.short ≡ false → IsTaken view b c → IsSeenBy view history c → IsTold origin view place setting history c d →
       HasPlayed origin view place setting history a d
   played_is history a b c d worked memory taken seen told =
-      let seats : d.turns ≡ b.seats = told.turns ∙ taken.turns in
+      let seats : d.turns ≡ b.turns = told.turns ∙ taken.turns in
       record {
         of = told.of;
         between = view b.pass;

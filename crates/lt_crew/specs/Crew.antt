@@ -1,5 +1,5 @@
 -- Transactions that the passes of a crew play side by side.
-use Rattle.std.specs.Prelude.{zero, suc, ◌≡◌, ◌==◌, ℕ, ◌<◌, List, [], ◌∷◌, ◌++◌, map, filter, length, slice_index_or, IsTrue}
+use Rattle.std.specs.Prelude.{zero, suc, ◌≡◌, ◌==◌, ℕ, ◌<◌, List, [], ◌∷◌, ◌++◌, map, filter, length, slice_index_or, false, IsTrue}
 use Rattle.std.specs.List.{AllByRecursion}
 use Rattle.lt_ranges.specs.Numbers.{is_in}
 use Rattle.lt_seq.specs.declared.event.Event.{Event}
@@ -17,6 +17,11 @@ own_in txn receipts = filter (λ r. r.event.txn == txn) receipts
 
 abbrev pub numbers_in : List Seat → List ℕ
 numbers_in seats = map (λ s. s.turn.txn) seats
+
+-- it does not wait, and its last call was not refused
+pub record MayGo (seat : Seat) : Type 0 where
+  pub goes : seat.turn.waits ≡ false
+  pub free : seat.busy ≡ false
 
 -- no two have one number
 abbrev pub AreDistinct : List Seat → Type 0

@@ -1,9 +1,12 @@
 //! Transactions that workers play side by side.
 #![tactic(auto)]
 
+mod crew;
 mod gate;
 pub mod laws;
+mod play;
 mod worker;
 
+pub use crew::round;
 pub use gate::{Gate, OpenGate};
 pub use worker::Worker;

@@ -1,0 +1,15 @@
+use Rattle.std.proofs.Common.{◌≡◌, []}
+use Rattle.lt_seq.specs.Yard.{origin_of}
+use Rattle.lt_runner.specs.PlaysOn.{IsFit, IsReady, PlaysOn}
+use Rattle.lt_crew.proofs.play.play_lines.Given as goal
+
+abbrev pub invariant-loop-line : goal.invariant-loop-line
+invariant-loop-line g l =
+    let view = g.Y.Pass.Pass.view in
+    let setting = g.Y.Yard.setting l.yard in
+    record {
+      of : g.Y.Pass.Pass.origin l.pass ≡ origin_of (g.Y.Yard.identity l.yard) setting;
+      ready : IsReady setting (view l.pass);
+      fit : IsFit setting l.turn;
+      plays : PlaysOn setting [] (view l.fn.pass) (view l.pass) l.fn.turn l.turn;
+    }

@@ -1,0 +1,206 @@
+//! Rounds of workers that play side by side.
+ghost use Rattle.std.specs.Prelude.{◌≡◌, [], ◌+◌, ◌-◌, ◌≤◌, ◌<◌, All, length, false, OnOk};
+ghost use Rattle.lt_seq.specs.Yard.{origin_of, Learns, IsSound};
+ghost use Rattle.lt_seq.specs.History.{IsFront};
+ghost use Rattle.lt_crew.specs.Workers.{IsManned, HasWorked, IsResting, IsLent, IsTaken, IsTold, HasTaken};
+ghost use Rattle.lt_crew.specs.Workers.{IsSeenBy, EachPair, HasPlayed, IsCaller, AreInOrder, seats_by};
+ghost use Rattle.lt_crew.specs.Crew.{IsRound};
+
+use crate::gate::Gate;
+use crate::worker::{Worker, play};
+use lt_seq::{Pass, Yard};
+use std::alloc::AllocError;
+use std::thread;
+use std::thread::Threads;
+
+/// Each worker plays in a thread.
+fn side_by_side<R: Threads + Sync, Y: Yard, G: Gate>(
+    rt: &R,
+    yard: &Y,
+    workers: &mut [Worker<Y::Pass>],
+    gate: &G,
+)
+    requires some { 0 < length workers.old }
+    requires manned { All (IsManned Y.Pass.origin Y.Pass.view (origin_of (Y.identity yard.now) (Y.setting yard.now)) (Y.setting
+        yard.now)) workers.old }
+    ensures { EachPair (HasWorked Y.Pass.origin Y.Pass.view (origin_of (Y.identity yard.now) (Y.setting yard.now)) (Y.setting yard.now))
+        workers.old workers.new }
+{
+    let threads = workers.len();
+    let part = |_: usize, worker: &mut Worker<Y::Pass>|
+        requires { IsManned Y.Pass.origin Y.Pass.view (origin_of (Y.identity yard.now) (Y.setting yard.now))
+            (Y.setting yard.now) worker.old }
+        ensures { HasWorked Y.Pass.origin Y.Pass.view (origin_of (Y.identity yard.entry.now) (Y.setting yard.entry.now)) (Y.setting
+            yard.entry.now) worker.old worker.new }
+    { play(yard, worker, gate) };
+    thread::for_each_mut(rt, workers, threads, &part);
+}
+
+/// Gives a right to a worker.
+fn lend_one<Y: Yard>(yard: &Y, me: &mut Y::Pass, worker: &mut Worker<Y::Pass>)
+    requires of { Y.Pass.origin me.old ≡ origin_of (Y.identity yard.now) (Y.setting yard.now) }
+    requires right { 1 ≤ (Y.Pass.view me.old).rights }
+    requires several { 2 ≤ (Y.setting yard.now).plan.passes }
+    requires resting { IsResting Y.Pass.origin Y.Pass.view (origin_of (Y.identity yard.now) (Y.setting yard.now)) (Y.setting yard.now)
+        (Y.Pass.view me.old).front worker.old }
+    ensures of { Y.Pass.origin me.new ≡ origin_of (Y.identity yard.now) (Y.setting yard.now) }
+    ensures me { Y.Pass.view me.new ≡ record (Y.Pass.view me.old) { rights = (Y.Pass.view me.old).rights - 1 } }
+    ensures worker { IsLent Y.Pass.origin Y.Pass.view (origin_of (Y.identity yard.now) (Y.setting yard.now))
+        (Y.setting yard.now) (Y.Pass.view me.old).front worker.old worker.new }
+{
+    let note = yard.share(me, 1);
+    yard.learn(&mut worker.pass, note);
+}
+
+/// Takes the right back, and learns what the worker has seen.
+fn take_one<Y: Yard>(yard: &Y, me: &mut Y::Pass, worker: &mut Worker<Y::Pass>)
+    requires of { Y.Pass.origin me.old ≡ origin_of (Y.identity yard.now) (Y.setting yard.now) }
+    requires of_worker { Y.Pass.origin worker.old.pass ≡ origin_of (Y.identity yard.now) (Y.setting yard.now) }
+    requires several { 2 ≤ (Y.setting yard.now).plan.passes }
+    requires one { (Y.Pass.view worker.old.pass).rights ≡ 1 }
+    requires fits { (Y.Pass.view me.old).rights + 1 ≤ (Y.setting yard.now).plan.passes }
+    ensures of { Y.Pass.origin me.new ≡ origin_of (Y.identity yard.now) (Y.setting yard.now) }
+    ensures me { Learns (Y.setting yard.now) (Y.Pass.view me.old) (record { rights = 1; front = (Y.Pass.view worker.old.pass).front })
+        (Y.Pass.view me.new) }
+    ensures of_worker { Y.Pass.origin worker.new.pass ≡ origin_of (Y.identity yard.now) (Y.setting yard.now) }
+    ensures worker { IsTaken Y.Pass.view worker.old worker.new }
+{
+    let note = yard.share(&mut worker.pass, 1);
+    yard.learn(me, note);
+}
+
+/// Tells a worker what the caller has seen.
+fn tell_one<Y: Yard>(yard: &Y, me: &mut Y::Pass, worker: &mut Worker<Y::Pass>)
+    requires of { Y.Pass.origin me.old ≡ origin_of (Y.identity yard.now) (Y.setting yard.now) }
+    requires of_worker { Y.Pass.origin worker.old.pass ≡ origin_of (Y.identity yard.now) (Y.setting yard.now) }
+    requires several { 2 ≤ (Y.setting yard.now).plan.passes }
+    requires none { (Y.Pass.view worker.old.pass).rights ≡ 0 }
+    requires seen { IsFront (Y.Pass.view worker.old.pass).front (Y.Pass.view me.old).front }
+    ensures of { Y.Pass.origin me.new ≡ origin_of (Y.identity yard.now) (Y.setting yard.now) }
+    ensures me { Y.Pass.view me.new ≡ Y.Pass.view me.old }
+    ensures worker { IsTold Y.Pass.origin Y.Pass.view (origin_of (Y.identity yard.now) (Y.setting yard.now))
+        (Y.setting yard.now) (Y.Pass.view me.old).front worker.old worker.new }
+{
+    let note = yard.share(me, 0);
+    yard.learn(&mut worker.pass, note);
+}
+
+/// Gives a right to each worker.
+fn lend<Y: Yard>(yard: &Y, me: &mut Y::Pass, workers: &mut [Worker<Y::Pass>])
+    requires of { Y.Pass.origin me.old ≡ origin_of (Y.identity yard.now) (Y.setting yard.now) }
+    requires rights { length workers.old ≤ (Y.Pass.view me.old).rights }
+    requires several { 2 ≤ (Y.setting yard.now).plan.passes }
+    requires resting { All (IsResting Y.Pass.origin Y.Pass.view (origin_of (Y.identity yard.now) (Y.setting yard.now)) (Y.setting
+        yard.now) (Y.Pass.view me.old).front) workers.old }
+    ensures of { Y.Pass.origin me.new ≡ origin_of (Y.identity yard.now) (Y.setting yard.now) }
+    ensures me { Y.Pass.view me.new ≡ record (Y.Pass.view me.old) { rights = (Y.Pass.view me.old).rights - length workers.old } }
+    ensures workers { EachPair (IsLent Y.Pass.origin Y.Pass.view (origin_of (Y.identity yard.now) (Y.setting yard.now)) (Y.setting
+        yard.now) (Y.Pass.view me.old).front) workers.old workers.new }
+{
+    for worker in workers.iter_mut() {
+        lend_one(yard, me, worker);
+    }
+}
+
+/// Takes the right of each worker back.
+fn take_back<Y: Yard>(yard: &Y, me: &mut Y::Pass, workers: &mut [Worker<Y::Pass>])
+    requires of { Y.Pass.origin me.old ≡ origin_of (Y.identity yard.now) (Y.setting yard.now) }
+    requires sound { IsSound (Y.setting yard.now) (Y.Pass.view me.old) }
+    requires several { 2 ≤ (Y.setting yard.now).plan.passes }
+    requires of_workers { All (λ w. Y.Pass.origin w.pass ≡ origin_of (Y.identity yard.now) (Y.setting yard.now)) workers.old }
+    requires one { All (λ w. (Y.Pass.view w.pass).rights ≡ 1) workers.old }
+    requires fits { (Y.Pass.view me.old).rights + length workers.old ≤ (Y.setting yard.now).plan.passes }
+    ensures of { Y.Pass.origin me.new ≡ origin_of (Y.identity yard.now) (Y.setting yard.now) }
+    ensures me { HasTaken (Y.setting yard.now) (Y.Pass.view me.old) (Y.Pass.view me.new) (length workers.old) }
+    ensures of_workers { All (λ w. Y.Pass.origin w.pass ≡ origin_of (Y.identity yard.now) (Y.setting yard.now)) workers.new }
+    ensures seen { All (IsSeenBy Y.Pass.view (Y.Pass.view me.new).front) workers.new }
+    ensures workers { EachPair (IsTaken Y.Pass.view) workers.old workers.new }
+{
+    for worker in workers.iter_mut() {
+        take_one(yard, me, worker);
+    }
+}
+
+/// Tells each worker what the caller has seen.
+fn tell<Y: Yard>(yard: &Y, me: &mut Y::Pass, workers: &mut [Worker<Y::Pass>])
+    requires of { Y.Pass.origin me.old ≡ origin_of (Y.identity yard.now) (Y.setting yard.now) }
+    requires several { 2 ≤ (Y.setting yard.now).plan.passes }
+    requires of_workers { All (λ w. Y.Pass.origin w.pass ≡ origin_of (Y.identity yard.now) (Y.setting yard.now)) workers.old }
+    requires none { All (λ w. (Y.Pass.view w.pass).rights ≡ 0) workers.old }
+    requires seen { All (IsSeenBy Y.Pass.view (Y.Pass.view me.old).front) workers.old }
+    ensures of { Y.Pass.origin me.new ≡ origin_of (Y.identity yard.now) (Y.setting yard.now) }
+    ensures me { Y.Pass.view me.new ≡ Y.Pass.view me.old }
+    ensures workers { EachPair (IsTold Y.Pass.origin Y.Pass.view (origin_of (Y.identity yard.now) (Y.setting yard.now)) (Y.setting
+        yard.now) (Y.Pass.view me.old).front) workers.old workers.new }
+{
+    for worker in workers.iter_mut() {
+        tell_one(yard, me, worker);
+    }
+}
+
+/// Whether a worker found no memory.
+fn any_short<P>(workers: &[Worker<P>]) -> bool
+    ensures { result ≡ false → All (λ w. w.short ≡ false) workers.now }
+{
+    for worker in workers {
+        if worker.short {
+            return true;
+        }
+    }
+    false
+}
+
+/// The workers have each a right, play, and give the right back. Then each has seen what the caller has seen.
+fn play_lent<R: Threads + Sync, Y: Yard, G: Gate>(
+    rt: &R,
+    yard: &Y,
+    me: &mut Y::Pass,
+    workers: &mut [Worker<Y::Pass>],
+    gate: &G,
+) -> Result<(), AllocError>
+    requires of { Y.Pass.origin me.old ≡ origin_of (Y.identity yard.now) (Y.setting yard.now) }
+    requires sound { IsSound (Y.setting yard.now) (Y.Pass.view me.old) }
+    requires several { 2 ≤ (Y.setting yard.now).plan.passes }
+    requires rest { (Y.Pass.view me.old).rights + length workers.old ≤ (Y.setting yard.now).plan.passes }
+    requires some { 0 < length workers.old }
+    requires manned { All (IsManned Y.Pass.origin Y.Pass.view (origin_of (Y.identity yard.now) (Y.setting yard.now)) (Y.setting
+        yard.now)) workers.old }
+    requires one { All (λ w. (Y.Pass.view w.pass).rights ≡ 1) workers.old }
+    ensures of { Y.Pass.origin me.new ≡ origin_of (Y.identity yard.now) (Y.setting yard.now) }
+    ensures me { OnOk result (HasTaken (Y.setting yard.now) (Y.Pass.view me.old) (Y.Pass.view me.new) (length workers.old)) }
+    ensures played { OnOk result (EachPair (HasPlayed Y.Pass.origin Y.Pass.view (origin_of (Y.identity yard.now) (Y.setting yard.now))
+        (Y.setting yard.now) (Y.Pass.view me.new).front) workers.old workers.new) }
+{
+    side_by_side(rt, yard, workers, gate);
+    if any_short(workers) {
+        return Err(AllocError);
+    }
+    take_back(yard, me, workers);
+    tell(yard, me, workers);
+    Ok(())
+}
+
+/// One round: each worker gets a right, the workers play side by side, and the rights come back.
+pub fn round<R: Threads + Sync, Y: Yard, G: Gate>(
+    rt: &R,
+    yard: &Y,
+    me: &mut Y::Pass,
+    workers: &mut [Worker<Y::Pass>],
+    gate: &G,
+) -> Result<(), AllocError>
+    requires of { Y.Pass.origin me.old ≡ origin_of (Y.identity yard.now) (Y.setting yard.now) }
+    requires caller { IsCaller (Y.setting yard.now) (length workers.old) (Y.Pass.view me.old) }
+    requires resting { All (IsResting Y.Pass.origin Y.Pass.view (origin_of (Y.identity yard.now) (Y.setting yard.now)) (Y.setting
+        yard.now) (Y.Pass.view me.old).front) workers.old }
+    requires ordered { AreInOrder Y.Pass.view workers.old }
+    ensures of { Y.Pass.origin me.new ≡ origin_of (Y.identity yard.now) (Y.setting yard.now) }
+    ensures caller { OnOk result (IsCaller (Y.setting yard.now) (length workers.old) (Y.Pass.view me.new)) }
+    ensures resting { OnOk result (All (IsResting Y.Pass.origin Y.Pass.view (origin_of (Y.identity yard.now) (Y.setting yard.now))
+        (Y.setting yard.now) (Y.Pass.view me.new).front) workers.new) }
+    ensures ordered { OnOk result (AreInOrder Y.Pass.view workers.new) }
+    ensures round { OnOk result (IsRound (Y.setting yard.now) [] (Y.Pass.view me.old).front (Y.Pass.view me.new).front (seats_by
+        workers.old) (seats_by workers.new)) }
+{
+    lend(yard, me, workers);
+    play_lent(rt, yard, me, workers, gate)
+}
