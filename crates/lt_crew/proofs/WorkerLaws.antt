@@ -36,9 +36,9 @@ pub longer_front : (own told longer : List Event) → IsLonger own told longer �
 longer_front own told longer (inl h) = (subst (IsFront own) (sym h.0) (front_itself own), subst (IsFront told) (sym h.0) h.1)
 longer_front own told longer (inr h) = (subst (IsFront own) (sym h.0) h.1, subst (IsFront told) (sym h.0) (front_itself told))
 
-module _ {P : Type 0} (origin : P → Origin) (view : P → PassView) (place : Origin) (setting : Setting) where
-  pub told_is : (history : List Event) (old new : Worker P) (note : NoteView) (giver : PassView) → 2 ≤ setting.plan.passes → giver.front ≡ history → Shares setting giver 0 note → IsFront (view old.pass).front history → (view old.pass).rights ≡ 0 →
-      Learns setting (view old.pass) note (view new.pass) → origin new.pass ≡ place → new.turns ≡ old.turns → new.short ≡ old.short → IsTold origin view place setting history old new
+module _ {P : Type 0} (origin : P → Origin) (view : P → PassView) (place : Origin) where
+  pub told_is : (history : List Event) (old new : Worker P) (note : NoteView) (giver : PassView) → 2 ≤ place.setting.plan.passes → giver.front ≡ history → Shares place.setting giver 0 note → IsFront (view old.pass).front history → (view old.pass).rights ≡ 0 →
+      Learns place.setting (view old.pass) note (view new.pass) → origin new.pass ≡ place → new.turns ≡ old.turns → new.short ≡ old.short → IsTold origin view place history old new
   told_is history old new note giver several has shares seen none learns of turns memory =
       let told : note.front ≡ history = shares.whole several ∙ has in
       let front : (view new.pass).front ≡ history = longer_told (view old.pass).front note.front (view new.pass).front (subst (IsFront (view old.pass).front) (sym told) seen) learns.longer ∙ told in
@@ -90,27 +90,27 @@ numbers_same (w ∷ before) (a ∷ later) count same =
     let rest = numbers_same before later (omega (arith, count)) (λ i d h. same (suc i) d (omega (arith, h))) in
     λ j. here j ∷ rest j
 
-module _ {P : Type 0} (origin : P → Origin) (view : P → PassView) (place : Origin) (setting : Setting) where
-  played_is : (history : List Event) (a b c d : Worker P) → HasWorked origin view place setting a b → b.short ≡ false → IsTaken view b c → IsSeenBy view history c → IsTold origin view place setting history c d →
-      HasPlayed origin view place setting history a d
+module _ {P : Type 0} (origin : P → Origin) (view : P → PassView) (place : Origin) where
+  played_is : (history : List Event) (a b c d : Worker P) → HasWorked origin view place a b → b.short ≡ false → IsTaken view b c → IsSeenBy view history c → IsTold origin view place history c d →
+      HasPlayed origin view place history a d
   played_is history a b c d worked memory taken seen told =
       let seats : d.turns ≡ b.turns = told.turns ∙ taken.turns in
       record {
         of = told.of;
         between = view b.pass;
-        plays = subst (λ (s : Vec Seat). PlaysAll setting [] (view a.pass) (view b.pass) a.turns.items s.items) (sym seats) (worked.plays memory);
+        plays = subst (λ (s : Vec Seat). PlaysAll place.setting [] (view a.pass) (view b.pass) a.turns.items s.items) (sym seats) (worked.plays memory);
         seen = subst (λ (p : PassView). IsFront p.front history) taken.pass seen;
         pass = told.pass ∙ (λ i. record (taken.pass i) { front = history });
         sound = told.sound;
-        fit = subst (λ (s : Vec Seat). All (IsFit setting) s.items) (sym seats) (worked.fit memory);
+        fit = subst (λ (s : Vec Seat). All (IsFit place.setting) s.items) (sym seats) (worked.fit memory);
         memory = told.memory ∙ taken.memory ∙ memory;
       }
 
-  pub each_played : (history now : List Event) (a b c d : List (Worker P)) → EachPair (HasWorked origin view place setting) a b → All (λ w. w.short ≡ false) b → EachPair (IsTaken view) b c → All (IsSeenBy view history) c →
-      EachPair (IsTold origin view place setting history) c d → now ≡ history → EachPair (HasPlayed origin view place setting now) a d
+  pub each_played : (history now : List Event) (a b c d : List (Worker P)) → EachPair (HasWorked origin view place) a b → All (λ w. w.short ≡ false) b → EachPair (IsTaken view) b c → All (IsSeenBy view history) c →
+      EachPair (IsTold origin view place history) c d → now ≡ history → EachPair (HasPlayed origin view place now) a d
   each_played history now a b c d worked memory taken seen told same = (
     told.0 ∙ taken.0 ∙ worked.0,
-    λ i e h. subst (λ (es : List Event). HasPlayed origin view place setting es (get_or a i e) (get_or d i e)) (sym same)
+    λ i e h. subst (λ (es : List Event). HasPlayed origin view place es (get_or a i e) (get_or d i e)) (sym same)
         (played_is history (get_or a i e) (get_or b i e) (get_or c i e) (get_or d i e) (worked.1 i e h) (memory i e (omega (arith, h, worked.0))) (taken.1 i e (omega (arith, h, worked.0)))
         (seen i e (omega (arith, h, worked.0, taken.0))) (told.1 i e (omega (arith, h, worked.0, taken.0)))),
   )
@@ -124,19 +124,19 @@ module _ {P : Type 0} (origin : P → Origin) (view : P → PassView) (place : O
   seats_none (w ∷ ws) (suc k) h = seats_none ws k (omega (arith, h))
 
   -- what a lent worker did in the round
-  worked_at : (before history : List Event) (old lent new : Worker P) → IsResting origin view place setting before old → IsLent origin view place setting before old lent → HasPlayed origin view place setting history lent new →
-      Worked setting [] before history (view old.pass).number old.turns.items new.turns.items
+  worked_at : (before history : List Event) (old lent new : Worker P) → IsResting origin view place before old → IsLent origin view place before old lent → HasPlayed origin view place history lent new →
+      Worked place.setting [] before history (view old.pass).number old.turns.items new.turns.items
   worked_at before history old lent new resting is_lent plays =
       let number : (view lent.pass).number ≡ (view old.pass).number = ap (λ (p : PassView). p.number) is_lent.pass in
       let front : (view lent.pass).front ≡ before = ap (λ (p : PassView). p.front) is_lent.pass ∙ resting.seen in
-      let all : Worked setting [] before history (view lent.pass).number lent.turns.items new.turns.items =
-      worked_by setting [] before history (view lent.pass) plays.between (view new.pass) lent.turns.items new.turns.items plays.plays front is_lent.sound plays.seen (ap (λ (p : PassView). p.front) plays.pass)
+      let all : Worked place.setting [] before history (view lent.pass).number lent.turns.items new.turns.items =
+      worked_by place.setting [] before history (view lent.pass) plays.between (view new.pass) lent.turns.items new.turns.items plays.plays front is_lent.sound plays.seen (ap (λ (p : PassView). p.front) plays.pass)
       (ap (λ (p : PassView). p.number) plays.pass ∙ plays.plays.goes.number) (ap (λ (p : PassView). p.mine) plays.pass) plays.sound in
-      subst (λ (n : ℕ). Worked setting [] before history n old.turns.items new.turns.items) number
-      (subst (λ (s : Vec Seat). Worked setting [] before history (view lent.pass).number s.items new.turns.items) is_lent.turns all)
+      subst (λ (n : ℕ). Worked place.setting [] before history n old.turns.items new.turns.items) number
+      (subst (λ (s : Vec Seat). Worked place.setting [] before history (view lent.pass).number s.items new.turns.items) is_lent.turns all)
 
-  module _ (before history : List Event) (old lent new : List (Worker P)) (resting : All (IsResting origin view place setting before) old) (lends : EachPair (IsLent origin view place setting before) old lent)
-      (plays : EachPair (HasPlayed origin view place setting history) lent new) (ordered : AreInOrder view old) where
+  module _ (before history : List Event) (old lent new : List (Worker P)) (resting : All (IsResting origin view place before) old) (lends : EachPair (IsLent origin view place before) old lent)
+      (plays : EachPair (HasPlayed origin view place history) lent new) (ordered : AreInOrder view old) where
     there : (k : ℕ) → k < length old → k < length lent
     there k h = omega (arith, h, lends.0)
 
@@ -168,7 +168,7 @@ module _ {P : Type 0} (origin : P → Origin) (view : P → PassView) (place : O
           (subst (λ (ns : List ℕ). IsTrue (is_in txn ns)) (numbers_by p) in_p) (subst (λ (ns : List ℕ). IsTrue (is_in txn ns)) (numbers_by q) in_q);
     }
 
-    pub resting_still : All (IsResting origin view place setting history) new
+    pub resting_still : All (IsResting origin view place history) new
     resting_still k d h =
         let within : k < length old = omega (arith, h, lends.0, plays.0) in
         let p = plays.1 k d (there k within) in
@@ -187,25 +187,25 @@ module _ {P : Type 0} (origin : P → Origin) (view : P → PassView) (place : O
           memory = p.memory;
         }
 
-    worked_pass : (me now : PassView) → now.mine ≡ me.mine → me.number ≡ 0 → now.number ≡ me.number → me.front ≡ before → now.front ≡ history → IsSound setting me → IsSound setting now →
-        setting.plan.passes ≡ length old + 1 → (pass : ℕ) → pass < setting.plan.passes → Worked setting [] before history pass (seats_by old pass) (seats_by new pass)
+    worked_pass : (me now : PassView) → now.mine ≡ me.mine → me.number ≡ 0 → now.number ≡ me.number → me.front ≡ before → now.front ≡ history → IsSound place.setting me → IsSound place.setting now →
+        place.setting.plan.passes ≡ length old + 1 → (pass : ℕ) → pass < place.setting.plan.passes → Worked place.setting [] before history pass (seats_by old pass) (seats_by new pass)
     worked_pass me now mine zeroth same began ended sound sound_now count zero inside =
-        worked_none setting [] before history 0
-        (ap (calls_from setting.plan.first 0) (sym ended) ∙ ap (λ n. calls_from setting.plan.first n now.front) (sym (same ∙ zeroth)) ∙ sym sound_now.mine ∙ mine ∙ sound.mine
-        ∙ ap (λ n. calls_from setting.plan.first n me.front) zeroth ∙ ap (calls_from setting.plan.first 0) began)
+        worked_none place.setting [] before history 0
+        (ap (calls_from place.setting.plan.first 0) (sym ended) ∙ ap (λ n. calls_from place.setting.plan.first n now.front) (sym (same ∙ zeroth)) ∙ sym sound_now.mine ∙ mine ∙ sound.mine
+        ∙ ap (λ n. calls_from place.setting.plan.first n me.front) zeroth ∙ ap (calls_from place.setting.plan.first 0) began)
     worked_pass me now mine zeroth same began ended sound sound_now count (suc k) inside =
         let h : k < length old = omega (arith, inside, count) in
         let d = element old k h in
         let all = worked_at before history (get_or old k d) (get_or lent k d) (get_or new k d) (resting k d h) (lends.1 k d h) (plays.1 k d (there k h)) in
         let number : (view (get_or old k d).pass).number ≡ suc k = ordered.numbers k d h ∙ omega arith in
-        subst (λ (ss : List Seat). Worked setting [] before history (suc k) ss (seats_by new (suc k))) (sym (seats_at old k d h))
-        (subst (λ (ss : List Seat). Worked setting [] before history (suc k) (get_or old k d).turns.items ss) (sym (seats_at new k d (there_too k h)))
-        (subst (λ (n : ℕ). Worked setting [] before history n (get_or old k d).turns.items (get_or new k d).turns.items) number all))
+        subst (λ (ss : List Seat). Worked place.setting [] before history (suc k) ss (seats_by new (suc k))) (sym (seats_at old k d h))
+        (subst (λ (ss : List Seat). Worked place.setting [] before history (suc k) (get_or old k d).turns.items ss) (sym (seats_at new k d (there_too k h)))
+        (subst (λ (n : ℕ). Worked place.setting [] before history n (get_or old k d).turns.items (get_or new k d).turns.items) number all))
 
-    pub round_is : (me now : PassView) → now.mine ≡ me.mine → me.number ≡ 0 → now.number ≡ me.number → me.front ≡ before → now.front ≡ history → IsFront before history → IsSound setting me → IsSound setting now →
-        setting.plan.passes ≡ length old + 1 → IsRound setting [] before history (seats_by old) (seats_by new)
+    pub round_is : (me now : PassView) → now.mine ≡ me.mine → me.number ≡ 0 → now.number ≡ me.number → me.front ≡ before → now.front ≡ history → IsFront before history → IsSound place.setting me → IsSound place.setting now →
+        place.setting.plan.passes ≡ length old + 1 → IsRound place.setting [] before history (seats_by old) (seats_by new)
     round_is me now mine zeroth same began ended front sound sound_now count = record {
-      legal = subst (IsLegal setting) ended sound_now.legal;
+      legal = subst (IsLegal place.setting) ended sound_now.legal;
       front = front;
       apart = ordered.parted;
       worked = worked_pass me now mine zeroth same began ended sound sound_now count;

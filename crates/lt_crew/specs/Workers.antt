@@ -33,28 +33,28 @@ seats_by {P} workers (suc k) = slice_index_or (map (λ w. w.turns.items) workers
 abbrev pub AreParted : {P : Type 0} → List (Worker P) → Type 0
 AreParted {P} workers = AreApart (λ pass. numbers_in (seats_by workers pass))
 
-module _ {P : Type 0} (origin : P → Origin) (view : P → PassView) (place : Origin) (setting : Setting) where
+module _ {P : Type 0} (origin : P → Origin) (view : P → PassView) (place : Origin) where
   -- a worker that may play
   pub record IsManned (worker : Worker P) : Type 0 where
     pub of : origin worker.pass ≡ place
-    pub ready : IsReady setting (view worker.pass)
-    pub fit : All (IsFit setting) worker.turns.items
+    pub ready : IsReady place.setting (view worker.pass)
+    pub fit : All (IsFit place.setting) worker.turns.items
     pub distinct : AreDistinct worker.turns.items
     pub memory : worker.short ≡ false
 
   -- what it leaves
   pub record HasWorked (old new : Worker P) : Type 0 where
     pub of : origin new.pass ≡ place
-    pub fit : new.short ≡ false → All (IsFit setting) new.turns.items
-    pub plays : new.short ≡ false → PlaysAll setting [] (view old.pass) (view new.pass) old.turns.items new.turns.items
+    pub fit : new.short ≡ false → All (IsFit place.setting) new.turns.items
+    pub plays : new.short ≡ false → PlaysAll place.setting [] (view old.pass) (view new.pass) old.turns.items new.turns.items
 
   -- between two rounds: it has no right, and has seen the history
   pub record IsResting (history : List Event) (worker : Worker P) : Type 0 where
     pub of : origin worker.pass ≡ place
     pub none : (view worker.pass).rights ≡ 0
     pub seen : (view worker.pass).front ≡ history
-    pub sound : IsSound setting (view worker.pass)
-    pub fit : All (IsFit setting) worker.turns.items
+    pub sound : IsSound place.setting (view worker.pass)
+    pub fit : All (IsFit place.setting) worker.turns.items
     pub distinct : AreDistinct worker.turns.items
     pub memory : worker.short ≡ false
 
@@ -62,7 +62,7 @@ module _ {P : Type 0} (origin : P → Origin) (view : P → PassView) (place : O
   pub record IsLent (history : List Event) (old new : Worker P) : Type 0 where
     pub of : origin new.pass ≡ place
     pub pass : view new.pass ≡ record (view old.pass) { rights = 1 }
-    pub sound : IsSound setting (view new.pass)
+    pub sound : IsSound place.setting (view new.pass)
     pub turns : new.turns ≡ old.turns
     pub memory : new.short ≡ old.short
 
@@ -70,7 +70,7 @@ module _ {P : Type 0} (origin : P → Origin) (view : P → PassView) (place : O
   pub record IsTold (history : List Event) (old new : Worker P) : Type 0 where
     pub of : origin new.pass ≡ place
     pub pass : view new.pass ≡ record (view old.pass) { front = history }
-    pub sound : IsSound setting (view new.pass)
+    pub sound : IsSound place.setting (view new.pass)
     pub turns : new.turns ≡ old.turns
     pub memory : new.short ≡ old.short
 
@@ -105,14 +105,14 @@ pub record IsCaller (setting : Setting) (workers : ℕ) (pass : PassView) : Type
   pub some : 1 ≤ workers
   pub sound : IsSound setting pass
 
-module _ {P : Type 0} (origin : P → Origin) (view : P → PassView) (place : Origin) (setting : Setting) where
+module _ {P : Type 0} (origin : P → Origin) (view : P → PassView) (place : Origin) where
   -- A worker that had a right and has none now: it played, and was told the history.
   pub record HasPlayed (history : List Event) (old new : Worker P) : Type 0 where
     pub of : origin new.pass ≡ place
     pub between : PassView
-    pub plays : PlaysAll setting [] (view old.pass) between old.turns.items new.turns.items
+    pub plays : PlaysAll place.setting [] (view old.pass) between old.turns.items new.turns.items
     pub seen : IsFront between.front history
     pub pass : view new.pass ≡ record between { rights = 0; front = history }
-    pub sound : IsSound setting (view new.pass)
-    pub fit : All (IsFit setting) new.turns.items
+    pub sound : IsSound place.setting (view new.pass)
+    pub fit : All (IsFit place.setting) new.turns.items
     pub memory : new.short ≡ false

@@ -21,17 +21,15 @@ fn side_by_side<R: Threads + Sync, Y: Yard, G: Gate>(
     gate: &G,
 )
     requires some { 0 < length workers.old }
-    requires manned { All (IsManned Y.Pass.origin Y.Pass.view (origin_of (Y.identity yard.now) (Y.setting yard.now)) (Y.setting
-        yard.now)) workers.old }
-    ensures { EachPair (HasWorked Y.Pass.origin Y.Pass.view (origin_of (Y.identity yard.now) (Y.setting yard.now)) (Y.setting yard.now))
+    requires manned { All (IsManned Y.Pass.origin Y.Pass.view (origin_of (Y.identity yard.now) (Y.setting yard.now))) workers.old }
+    ensures { EachPair (HasWorked Y.Pass.origin Y.Pass.view (origin_of (Y.identity yard.now) (Y.setting yard.now)))
         workers.old workers.new }
 {
     let threads = workers.len();
     let part = |_: usize, worker: &mut Worker<Y::Pass>|
-        requires { IsManned Y.Pass.origin Y.Pass.view (origin_of (Y.identity yard.now) (Y.setting yard.now))
-            (Y.setting yard.now) worker.old }
-        ensures { HasWorked Y.Pass.origin Y.Pass.view (origin_of (Y.identity yard.entry.now) (Y.setting yard.entry.now)) (Y.setting
-            yard.entry.now) worker.old worker.new }
+        requires { IsManned Y.Pass.origin Y.Pass.view (origin_of (Y.identity yard.now) (Y.setting yard.now)) worker.old }
+        ensures { HasWorked Y.Pass.origin Y.Pass.view (origin_of (Y.identity yard.entry.now) (Y.setting yard.entry.now))
+            worker.old worker.new }
     { play(yard, worker, gate) };
     thread::for_each_mut(rt, workers, threads, &part);
 }
@@ -41,12 +39,12 @@ fn lend_one<Y: Yard>(yard: &Y, me: &mut Y::Pass, worker: &mut Worker<Y::Pass>)
     requires of { Y.Pass.origin me.old ≡ origin_of (Y.identity yard.now) (Y.setting yard.now) }
     requires right { 1 ≤ (Y.Pass.view me.old).rights }
     requires several { 2 ≤ (Y.setting yard.now).plan.passes }
-    requires resting { IsResting Y.Pass.origin Y.Pass.view (origin_of (Y.identity yard.now) (Y.setting yard.now)) (Y.setting yard.now)
+    requires resting { IsResting Y.Pass.origin Y.Pass.view (origin_of (Y.identity yard.now) (Y.setting yard.now))
         (Y.Pass.view me.old).front worker.old }
     ensures of { Y.Pass.origin me.new ≡ origin_of (Y.identity yard.now) (Y.setting yard.now) }
     ensures me { Y.Pass.view me.new ≡ record (Y.Pass.view me.old) { rights = (Y.Pass.view me.old).rights - 1 } }
     ensures worker { IsLent Y.Pass.origin Y.Pass.view (origin_of (Y.identity yard.now) (Y.setting yard.now))
-        (Y.setting yard.now) (Y.Pass.view me.old).front worker.old worker.new }
+        (Y.Pass.view me.old).front worker.old worker.new }
 {
     let note = yard.share(me, 1);
     yard.learn(&mut worker.pass, note);
@@ -79,7 +77,7 @@ fn tell_one<Y: Yard>(yard: &Y, me: &mut Y::Pass, worker: &mut Worker<Y::Pass>)
     ensures of { Y.Pass.origin me.new ≡ origin_of (Y.identity yard.now) (Y.setting yard.now) }
     ensures me { Y.Pass.view me.new ≡ Y.Pass.view me.old }
     ensures worker { IsTold Y.Pass.origin Y.Pass.view (origin_of (Y.identity yard.now) (Y.setting yard.now))
-        (Y.setting yard.now) (Y.Pass.view me.old).front worker.old worker.new }
+        (Y.Pass.view me.old).front worker.old worker.new }
 {
     let note = yard.share(me, 0);
     yard.learn(&mut worker.pass, note);
@@ -90,12 +88,12 @@ fn lend<Y: Yard>(yard: &Y, me: &mut Y::Pass, workers: &mut [Worker<Y::Pass>])
     requires of { Y.Pass.origin me.old ≡ origin_of (Y.identity yard.now) (Y.setting yard.now) }
     requires rights { length workers.old ≤ (Y.Pass.view me.old).rights }
     requires several { 2 ≤ (Y.setting yard.now).plan.passes }
-    requires resting { All (IsResting Y.Pass.origin Y.Pass.view (origin_of (Y.identity yard.now) (Y.setting yard.now)) (Y.setting
-        yard.now) (Y.Pass.view me.old).front) workers.old }
+    requires resting { All (IsResting Y.Pass.origin Y.Pass.view (origin_of (Y.identity yard.now) (Y.setting yard.now))
+        (Y.Pass.view me.old).front) workers.old }
     ensures of { Y.Pass.origin me.new ≡ origin_of (Y.identity yard.now) (Y.setting yard.now) }
     ensures me { Y.Pass.view me.new ≡ record (Y.Pass.view me.old) { rights = (Y.Pass.view me.old).rights - length workers.old } }
-    ensures workers { EachPair (IsLent Y.Pass.origin Y.Pass.view (origin_of (Y.identity yard.now) (Y.setting yard.now)) (Y.setting
-        yard.now) (Y.Pass.view me.old).front) workers.old workers.new }
+    ensures workers { EachPair (IsLent Y.Pass.origin Y.Pass.view (origin_of (Y.identity yard.now) (Y.setting yard.now))
+        (Y.Pass.view me.old).front) workers.old workers.new }
 {
     for worker in workers.iter_mut() {
         lend_one(yard, me, worker);
@@ -130,8 +128,8 @@ fn tell<Y: Yard>(yard: &Y, me: &mut Y::Pass, workers: &mut [Worker<Y::Pass>])
     requires seen { All (IsSeenBy Y.Pass.view (Y.Pass.view me.old).front) workers.old }
     ensures of { Y.Pass.origin me.new ≡ origin_of (Y.identity yard.now) (Y.setting yard.now) }
     ensures me { Y.Pass.view me.new ≡ Y.Pass.view me.old }
-    ensures workers { EachPair (IsTold Y.Pass.origin Y.Pass.view (origin_of (Y.identity yard.now) (Y.setting yard.now)) (Y.setting
-        yard.now) (Y.Pass.view me.old).front) workers.old workers.new }
+    ensures workers { EachPair (IsTold Y.Pass.origin Y.Pass.view (origin_of (Y.identity yard.now) (Y.setting yard.now))
+        (Y.Pass.view me.old).front) workers.old workers.new }
 {
     for worker in workers.iter_mut() {
         tell_one(yard, me, worker);
@@ -163,13 +161,12 @@ fn play_lent<R: Threads + Sync, Y: Yard, G: Gate>(
     requires several { 2 ≤ (Y.setting yard.now).plan.passes }
     requires rest { (Y.Pass.view me.old).rights + length workers.old ≤ (Y.setting yard.now).plan.passes }
     requires some { 0 < length workers.old }
-    requires manned { All (IsManned Y.Pass.origin Y.Pass.view (origin_of (Y.identity yard.now) (Y.setting yard.now)) (Y.setting
-        yard.now)) workers.old }
+    requires manned { All (IsManned Y.Pass.origin Y.Pass.view (origin_of (Y.identity yard.now) (Y.setting yard.now))) workers.old }
     requires one { All (λ w. (Y.Pass.view w.pass).rights ≡ 1) workers.old }
     ensures of { Y.Pass.origin me.new ≡ origin_of (Y.identity yard.now) (Y.setting yard.now) }
     ensures me { OnOk result (HasTaken (Y.setting yard.now) (Y.Pass.view me.old) (Y.Pass.view me.new) (length workers.old)) }
     ensures played { OnOk result (EachPair (HasPlayed Y.Pass.origin Y.Pass.view (origin_of (Y.identity yard.now) (Y.setting yard.now))
-        (Y.setting yard.now) (Y.Pass.view me.new).front) workers.old workers.new) }
+        (Y.Pass.view me.new).front) workers.old workers.new) }
 {
     side_by_side(rt, yard, workers, gate);
     if any_short(workers) {
@@ -190,13 +187,13 @@ pub fn round<R: Threads + Sync, Y: Yard, G: Gate>(
 ) -> Result<(), AllocError>
     requires of { Y.Pass.origin me.old ≡ origin_of (Y.identity yard.now) (Y.setting yard.now) }
     requires caller { IsCaller (Y.setting yard.now) (length workers.old) (Y.Pass.view me.old) }
-    requires resting { All (IsResting Y.Pass.origin Y.Pass.view (origin_of (Y.identity yard.now) (Y.setting yard.now)) (Y.setting
-        yard.now) (Y.Pass.view me.old).front) workers.old }
+    requires resting { All (IsResting Y.Pass.origin Y.Pass.view (origin_of (Y.identity yard.now) (Y.setting yard.now))
+        (Y.Pass.view me.old).front) workers.old }
     requires ordered { AreInOrder Y.Pass.view workers.old }
     ensures of { Y.Pass.origin me.new ≡ origin_of (Y.identity yard.now) (Y.setting yard.now) }
     ensures caller { OnOk result (IsCaller (Y.setting yard.now) (length workers.old) (Y.Pass.view me.new)) }
     ensures resting { OnOk result (All (IsResting Y.Pass.origin Y.Pass.view (origin_of (Y.identity yard.now) (Y.setting yard.now))
-        (Y.setting yard.now) (Y.Pass.view me.new).front) workers.new) }
+        (Y.Pass.view me.new).front) workers.new) }
     ensures ordered { OnOk result (AreInOrder Y.Pass.view workers.new) }
     ensures round { OnOk result (IsRound (Y.setting yard.now) [] (Y.Pass.view me.old).front (Y.Pass.view me.new).front (seats_by
         workers.old) (seats_by workers.new)) }

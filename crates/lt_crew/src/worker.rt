@@ -47,9 +47,9 @@ fn play_all<Y: Yard, G: Gate>(
 /// Plays the worker's transactions, each until it has given back all, waits at a held line, or a call is refused. Where
 /// memory is short it says so, and plays no further.
 pub(crate) fn play<Y: Yard, G: Gate>(yard: &Y, worker: &mut Worker<Y::Pass>, gate: &G)
-    requires { IsManned Y.Pass.origin Y.Pass.view (origin_of (Y.identity yard.now) (Y.setting yard.now)) (Y.setting yard.now)
+    requires { IsManned Y.Pass.origin Y.Pass.view (origin_of (Y.identity yard.now) (Y.setting yard.now))
         worker.old }
-    ensures { HasWorked Y.Pass.origin Y.Pass.view (origin_of (Y.identity yard.now) (Y.setting yard.now)) (Y.setting yard.now)
+    ensures { HasWorked Y.Pass.origin Y.Pass.view (origin_of (Y.identity yard.now) (Y.setting yard.now))
         worker.old worker.new }
 {
     if play_all(yard, &mut worker.pass, &mut worker.turns, gate).is_err() {
