@@ -2,6 +2,7 @@ pub mod TurnView
 pub mod Seats
 pub mod Calls
 pub mod PlaysOn
+pub mod Progress
 pub mod Turn
 pub mod Attempt
 pub mod Plays

@@ -1,5 +1,5 @@
 //! One play of a transaction: an attempt at its next line, or the rest of its release.
-ghost use Rattle.std.specs.Prelude.{◌≡◌, ◌≢◌, ◌≤◌, ◌<◌, List, [], ◌∷◌, Some, None, length, false, true, is_some, IsTrue, OnOk, IfOk};
+ghost use Rattle.std.specs.Prelude.{◌≡◌, ◌≢◌, ◌≤◌, ◌<◌, List, [], ◌∷◌, Some, None, length, false, true, is_some, IsTrue, OnOk, IfOk, IfErr};
 ghost use Rattle.lt_seq.specs.Yard.{origin_of};
 ghost use Rattle.lt_seq.specs.declared.event.Deed.TheVariants.{Ask};
 ghost use Rattle.lt_seq.specs.declared.event.Reply.TheVariants.{Granted};
@@ -11,6 +11,7 @@ ghost use Rattle.lt_runner.specs.PlaysOn.{IsAskDeed, IsReady, IsFit, IsNext, IsN
 ghost use Rattle.lt_runner.specs.PlaysOn.{IsKept, PlaysOn, UnlessShort, IsMoved, moved_to};
 ghost use Rattle.lt_runner.specs.Notes.{KeepsNotes};
 ghost use Rattle.lt_runner.specs.Work.{Spends, StepsOn};
+ghost use Rattle.lt_runner.specs.Progress.{IsFarther, IsRefused};
 ghost use Rattle.lt_runner.specs.PlaysAlone.{IsCaused, IsAtOnce, IsFreedAtOnce, MayPlayAtOnce};
 
 use crate::release::Release;
@@ -84,6 +85,7 @@ impl Turn {
         ensures spends { UnlessShort result (Spends (Y.setting yard.now) (Y.Pass.view pass.old) (Y.Pass.view pass.new)
             self.old self.new) }
         ensures steps { StepsOn self.old self.new result }
+        ensures farther { IsFarther self.old self.new result }
         ensures caused { IsCaused (Y.setting yard.now) (Y.Pass.view pass.old) (Y.Pass.view pass.new) result }
         ensures alone { IsAtOnce (Y.setting yard.now) (Y.Pass.view pass.old) (Y.Pass.view pass.new) self.old self.new result }
     {
@@ -130,6 +132,7 @@ impl Turn {
         ensures spends { UnlessShort result (Spends (Y.setting yard.now) (Y.Pass.view pass.old) (Y.Pass.view pass.new)
             self.old self.new) }
         ensures steps { StepsOn self.old self.new result }
+        ensures farther { IsFarther self.old self.new result }
         ensures caused { IsCaused (Y.setting yard.now) (Y.Pass.view pass.old) (Y.Pass.view pass.new) result }
         ensures alone { IsAtOnce (Y.setting yard.now) (Y.Pass.view pass.old) (Y.Pass.view pass.new) self.old self.new result }
     {
@@ -163,6 +166,7 @@ impl Turn {
         ensures spends { UnlessShort result (Spends (Y.setting yard.now) (Y.Pass.view pass.old) (Y.Pass.view pass.new)
             self.old self.new) }
         ensures steps { StepsOn self.old self.new result }
+        ensures farther { IsFarther self.old self.new result }
         ensures caused { IsCaused (Y.setting yard.now) (Y.Pass.view pass.old) (Y.Pass.view pass.new) result }
         ensures alone { IsAtOnce (Y.setting yard.now) (Y.Pass.view pass.old) (Y.Pass.view pass.new) self.old self.new result }
     {
@@ -210,6 +214,7 @@ impl Turn {
             ≡ record self.old { turn = record self.old.turn { releases = rest_of_release self.old.turn.releases }; busy = false }) }
         ensures spends { UnlessShort result (Spends (Y.setting yard.now) (Y.Pass.view pass.old) (Y.Pass.view pass.new)
             self.old self.new) }
+        ensures refused { IfErr result (λ fault. IsRefused self.old self.new) }
         ensures caused { IsCaused (Y.setting yard.now) (Y.Pass.view pass.old) (Y.Pass.view pass.new) result }
         ensures alone { MayPlayAtOnce (Y.setting yard.now) (Y.Pass.view pass.old) self.old.turn
             → IsFreedAtOnce (Y.setting yard.now) (Y.Pass.view pass.old) (Y.Pass.view pass.new) self.old.turn release.now result }
@@ -245,6 +250,7 @@ impl Turn {
         ensures spends { UnlessShort result (Spends (Y.setting yard.now) (Y.Pass.view pass.old) (Y.Pass.view pass.new)
             self.old self.new) }
         ensures steps { StepsOn self.old self.new result }
+        ensures farther { IsFarther self.old self.new result }
         ensures caused { IsCaused (Y.setting yard.now) (Y.Pass.view pass.old) (Y.Pass.view pass.new) result }
         ensures alone { IsAtOnce (Y.setting yard.now) (Y.Pass.view pass.old) (Y.Pass.view pass.new) self.old self.new result }
     {
@@ -286,6 +292,7 @@ impl Turn {
         ensures spends { UnlessShort result (Spends (Y.setting yard.now) (Y.Pass.view pass.old) (Y.Pass.view pass.new)
             self.old self.new) }
         ensures steps { StepsOn self.old self.new result }
+        ensures farther { IsFarther self.old self.new result }
         ensures caused { IsCaused (Y.setting yard.now) (Y.Pass.view pass.old) (Y.Pass.view pass.new) result }
         ensures alone { IsAtOnce (Y.setting yard.now) (Y.Pass.view pass.old) (Y.Pass.view pass.new) self.old self.new result }
     {
