@@ -6,3 +6,4 @@ pub mod CrewRunLaws
 pub mod PairLaws
 pub mod WorkerLaws
 pub mod ResultLaws
+pub mod StillLaws

@@ -13,7 +13,7 @@ use Rattle.lt_seq.proofs.HistoryLaws.{front_on, front_itself}
 use Rattle.lt_runner.specs.TurnView.{Seat}
 use Rattle.lt_runner.specs.PlaysOn.{IsFit}
 use Rattle.lt_crew.specs.declared.worker.Worker.{Worker}
-use Rattle.lt_crew.specs.Crew.{PlaysAll, Worked, IsRound, AreDistinct, numbers_in}
+use Rattle.lt_crew.specs.Crew.{PlaysAll, IsStill, Worked, IsRound, AreDistinct, numbers_in}
 use Rattle.lt_crew.specs.Workers.{UpTo, EachPair, AllBelow, IsTold, IsLent, IsTaken, IsResting, HasWorked, AreInOrder, AreParted, IsSeenBy, HasTaken, HasPlayed, seats_by}
 use Rattle.lt_crew.proofs.RoundLaws.{worked_by, worked_none}
 use Rattle.lt_crew.proofs.PairLaws.{below_set, below_weaker}
@@ -103,6 +103,7 @@ module _ {P : Type 0} (origin : P → Origin) (view : P → PassView) (place : O
         pass = told.pass ∙ (λ i. record (taken.pass i) { front = history });
         sound = told.sound;
         fit = subst (λ (s : Vec Seat). All (IsFit place.setting) s.items) (sym seats) (worked.fit memory);
+        still = subst (λ (s : Vec Seat). All IsStill s.items) (sym seats) (worked.still memory);
         memory = told.memory ∙ taken.memory ∙ memory;
       }
 

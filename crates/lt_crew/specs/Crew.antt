@@ -1,5 +1,5 @@
 -- Transactions that the passes of a crew play side by side.
-use Rattle.std.specs.Prelude.{zero, suc, ◌≡◌, ◌==◌, ℕ, ◌<◌, List, [], ◌∷◌, ◌++◌, map, filter, length, slice_index_or, false, IsTrue}
+use Rattle.std.specs.Prelude.{zero, suc, ◌≡◌, ◌⊎◌, ◌==◌, ℕ, ◌<◌, List, [], ◌∷◌, ◌++◌, map, filter, length, slice_index_or, is_some, true, false, IsTrue}
 use Rattle.std.specs.List.{AllByRecursion}
 use Rattle.lt_ranges.specs.Numbers.{is_in}
 use Rattle.lt_seq.specs.declared.event.Event.{Event}
@@ -22,6 +22,24 @@ numbers_in seats = map (λ s. s.turn.txn) seats
 pub record MayGo (seat : Seat) : Type 0 where
   pub goes : seat.turn.waits ≡ false
   pub free : seat.busy ≡ false
+
+-- a worker can't play it on: it waits, or its last call was refused
+abbrev pub IsStuck : Seat → Type 0
+IsStuck seat = (seat.turn.waits ≡ true) ⊎ (seat.busy ≡ true)
+
+-- no line of it is left, and once it has ended no free of its release
+pub record IsDone (seat : Seat) : Type 0 where
+  pub lines : seat.turn.lines ≡ []
+  pub releases : IsTrue (is_some seat.turn.outcome) → seat.turn.releases ≡ []
+
+-- it was played as far as a worker can
+abbrev pub IsStill : Seat → Type 0
+IsStill seat = IsStuck seat ⊎ IsDone seat
+
+-- One play brought it on: it is stuck, or fewer lines are left, or it had ended and has given back all.
+abbrev pub IsOn : Seat → Seat → Type 0
+IsOn was is = IsStuck is ⊎ ((length is.turn.lines < length was.turn.lines)
+    ⊎ (IsTrue (is_some was.turn.outcome) × (is.turn ≡ record was.turn { releases = [] })))
 
 -- no two have one number
 abbrev pub AreDistinct : List Seat → Type 0

@@ -1,8 +1,8 @@
 //! One transaction's lines, by a worker's pass.
-ghost use Rattle.std.specs.Prelude.{◌≡◌, ◌≢◌, [], OnOk, false, true, is_some, IsTrue, None};
+ghost use Rattle.std.specs.Prelude.{◌≡◌, ◌≢◌, ◌⊎◌, [], OnOk, false, true, is_some, IsTrue, None};
 ghost use Rattle.lt_seq.specs.Yard.{origin_of};
 ghost use Rattle.lt_runner.specs.PlaysOn.{IsFit, IsReady, PlaysOn};
-ghost use Rattle.lt_crew.specs.Crew.{MayGo};
+ghost use Rattle.lt_crew.specs.Crew.{MayGo, IsStuck, IsStill, IsOn};
 
 use crate::gate::Gate;
 use lt_runner::Turn;
@@ -11,7 +11,8 @@ use std::alloc::AllocError;
 
 /// Whether a worker may play it on: it does not wait, and its last call was not refused.
 fn may_go(turn: &Turn) -> bool
-    ensures { IsTrue result → MayGo turn.now }
+    ensures goes { IsTrue result → MayGo turn.now }
+    ensures stuck { result ≡ false → IsStuck turn.now }
 {
     !turn.is_waiting() && !turn.is_busy()
 }
@@ -26,6 +27,7 @@ fn play_once<Y: Yard>(yard: &Y, pass: &mut Y::Pass, turn: &mut Turn) -> Result<(
     ensures of { Y.Pass.origin pass.new ≡ origin_of (Y.identity yard.now) (Y.setting yard.now) }
     ensures fit { OnOk result (IsFit (Y.setting yard.now) turn.new) }
     ensures plays { OnOk result (PlaysOn (Y.setting yard.now) [] (Y.Pass.view pass.old) (Y.Pass.view pass.new) turn.old turn.new) }
+    ensures on { OnOk result (IsOn turn.old turn.new) }
 {
     let Err(fault) = turn.play(yard, pass) else {
         return Ok(());
@@ -49,6 +51,7 @@ fn play_lines<Y: Yard, G: Gate>(
     ensures of { Y.Pass.origin pass.new ≡ origin_of (Y.identity yard.now) (Y.setting yard.now) }
     ensures fit { OnOk result (IsFit (Y.setting yard.now) turn.new) }
     ensures plays { OnOk result (PlaysOn (Y.setting yard.now) [] (Y.Pass.view pass.old) (Y.Pass.view pass.new) turn.old turn.new) }
+    ensures played { OnOk result (IsStuck turn.new ⊎ (turn.new.turn.lines ≡ [])) }
 {
     for _line in 0..turn.lines_left() {
         if !may_go(turn) {
@@ -78,6 +81,7 @@ pub(crate) fn play_turn<Y: Yard, G: Gate>(
     ensures of { Y.Pass.origin pass.new ≡ origin_of (Y.identity yard.now) (Y.setting yard.now) }
     ensures fit { OnOk result (IsFit (Y.setting yard.now) turn.new) }
     ensures plays { OnOk result (PlaysOn (Y.setting yard.now) [] (Y.Pass.view pass.old) (Y.Pass.view pass.new) turn.old turn.new) }
+    ensures still { OnOk result (IsStill turn.new) }
 {
     play_lines(yard, pass, turn, gate)?;
     if turn.has_ended() && may_go(turn) {

@@ -1,5 +1,6 @@
-use Rattle.std.proofs.Common.{rules, []}
+use Rattle.std.proofs.Common.{rules, [], inr, length, arith}
 use Rattle.lt_runner.proofs.PlaysOnLaws.{plays_not, plays_then, ready_still}
+use Rattle.lt_crew.proofs.StillLaws.{within_more}
 use Rattle.lt_crew.proofs.play.play_lines.Goals as goal
 
 pub loop-line-init : goal.loop-line-init
@@ -8,14 +9,18 @@ loop-line-init g c = record {
   ready = search rules;
   fit = search rules;
   plays = plays_not (g.Y.Yard.setting c.args.yard.now) [] (g.Y.Pass.Pass.view c.args.pass.now) c.args.turn.now c.requires.ready.sound;
+  within = inr (omega arith);
 }
 
 pub loop-line-preserved : goal.loop-line-preserved
 loop-line-preserved g c =
     let setting = g.Y.Yard.setting c.args.yard.now in
+    let next = c.in-Some.ensures.some in
     record {
       of = search rules;
       ready = ready_still setting [] _ _ _ _ c.loop-line.invariant.ready c.in_ok-play_once.ensures.plays;
       fit = search rules;
       plays = plays_then setting [] _ _ _ _ _ _ c.loop-line.invariant.plays c.in_ok-play_once.ensures.plays;
+      within = within_more (length c.args.turn.now.turn.lines) c.loop-line._line c.loop-line.turn c.play_once.new.turn next.0 next.1 (c.may_go.ensures.goes (search rules)) next.2 c.loop-line.invariant.fit.over
+          c.loop-line.invariant.within c.in_ok-play_once.ensures.on;
     }

@@ -1,6 +1,7 @@
-use Rattle.std.proofs.Common.{◌≡◌, []}
+use Rattle.std.proofs.Common.{◌≡◌, [], length}
 use Rattle.lt_seq.specs.Yard.{origin_of}
 use Rattle.lt_runner.specs.PlaysOn.{IsFit, IsReady, PlaysOn}
+use Rattle.lt_crew.proofs.StillLaws.{IsWithin}
 use Rattle.lt_crew.proofs.play.play_lines.Given as goal
 
 abbrev pub invariant-loop-line : goal.invariant-loop-line
@@ -12,4 +13,5 @@ invariant-loop-line g l =
       ready : IsReady setting (view l.pass);
       fit : IsFit setting l.turn;
       plays : PlaysOn setting [] (view l.fn.pass) (view l.pass) l.fn.turn l.turn;
+      within : IsWithin (length l.fn.turn.turn.lines) l._line l.turn;
     }
