@@ -19,7 +19,7 @@ use Rattle.lt_runner.proofs.ListedLaws.{search_more, receipts_within}
 use Rattle.lt_runner.proofs.RunLaws.{come_is_run}
 use Rattle.lt_crew.specs.Crew.{numbers_in, IsRound, only}
 use Rattle.lt_crew.specs.Rounds.{AreMoved, AreOfTrace, IsListedNow, IsSearchOf, AreRounds, opened, worked, searched, opening_seats, RoundsStand, RoundsAreARun}
-use Rattle.lt_crew.proofs.OwnLaws.{eq_of}
+use Rattle.lt_crew.proofs.MovedLaws.{only_there}
 use Rattle.lt_crew.proofs.StandLaws.{all_stand}
 
 -- Nothing was played.
@@ -102,15 +102,6 @@ before_more : (setting : Setting) (history : List Event) (searches : List Search
     AllByRecursion (λ s. s.txn ≢ txn → s.place < place_after setting history) (searches ++ made ∷ [])
 before_more setting history [] made txn all same = ((λ other. absurd (other same)), tt)
 before_more setting history (s ∷ ss) made txn all same = ((λ other. all.0), before_more setting history ss made txn all.1 same)
-
--- the one that the caller alone plays
-only_there : (was : Seat) (pass txn : ℕ) → IsTrue (is_in txn (numbers_in (only was pass))) → txn ≡ was.turn.txn
-only_there was zero txn there = by_test (was.turn.txn == txn) refl there
-  where
-    by_test : (b : Bool) → (was.turn.txn == txn) ≡ b → IsTrue (b || false) → txn ≡ was.turn.txn
-    by_test true e there = sym (eq_of was.turn.txn txn e)
-    by_test false e there = cc
-only_there was (suc pass) txn there = cc
 
 -- Behind rounds.
 

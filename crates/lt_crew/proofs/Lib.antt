@@ -2,6 +2,7 @@ pub mod OwnLaws
 pub mod PlaysAllLaws
 pub mod RoundLaws
 pub mod StandLaws
+pub mod MovedLaws
 pub mod CrewRunLaws
 pub mod PairLaws
 pub mod WorkerLaws

@@ -1,10 +1,10 @@
 -- Runs of a crew: rounds of its workers, and turns of its caller, from the opening to the end.
-use Rattle.std.specs.Prelude.{◌≡◌, ◌≢◌, ℕ, ◌<◌, ◌≤◌, List, [], ◌∷◌, ◌++◌, map, length, slice_index_or, true, Some, IfSome, IsTrue}
+use Rattle.std.specs.Prelude.{◌≡◌, ◌≢◌, ℕ, ◌<◌, ◌≤◌, List, [], ◌∷◌, ◌++◌, map, length, slice_index_or, slice_set, true, Some, IfSome, IsTrue}
 use Rattle.std.specs.List.{AllByRecursion, filter_map}
 use Rattle.lt_ranges.specs.Numbers.{is_in}
 use Rattle.lt_seq.specs.declared.event.Event.{Event}
 use Rattle.lt_seq.specs.Table.{Setting}
-use Rattle.lt_seq.specs.Yard.{place_after}
+use Rattle.lt_seq.specs.Yard.{PassView, HasAll, IsSound, place_after}
 use Rattle.lt_trace.specs.declared.line.Line.{Line}
 use Rattle.lt_trace.specs.Grammar.{txns_of}
 use Rattle.lt_requests.specs.declared.wish.Wish.{Wish}
@@ -12,9 +12,10 @@ use Rattle.lt_runner.specs.TurnView.{Seat}
 use Rattle.lt_runner.specs.Seats.{opening_seat}
 use Rattle.lt_runner.specs.Plays.{lines_for, next_wish, wish_in}
 use Rattle.lt_runner.specs.Played.{Search, AllStand, IsOver}
+use Rattle.lt_runner.specs.PlaysOn.{PlaysOn}
 use Rattle.lt_runner.specs.Run.{Play, IsRun, ended_as}
 use Rattle.lt_runner.specs.Serial.{ended_in}
-use Rattle.lt_crew.specs.Crew.{numbers_in, IsRound, only}
+use Rattle.lt_crew.specs.Crew.{numbers_in, AreDistinct, IsRound, only}
 
 -- what a round made of a transaction: a pass played it, or it stayed
 pub data IsMoved : Setting → (ℕ → List Seat) → (ℕ → List Seat) → Seat → Seat → Type 0 where
@@ -32,6 +33,19 @@ AreMoved setting were are [] [] = Unit {0}
 AreMoved setting were are [] (is ∷ later) = ⊥
 AreMoved setting were are (was ∷ before) [] = ⊥
 AreMoved setting were are (was ∷ before) (is ∷ later) = IsMoved setting were are was is × AreMoved setting were are before later
+
+-- where a transaction was dealt: to this pass, at this place among the pass's
+pub record Dealt : Type 0 where
+  pub pass : ℕ
+  pub index : ℕ
+
+abbrev pub seat_at : (ℕ → List Seat) → Dealt → Seat
+seat_at seats at = slice_index_or (seats at.pass) at.index (opening_seat 0 0 [])
+
+-- it was dealt so
+pub record IsDealt (setting : Setting) (seats : ℕ → List Seat) (at : Dealt) : Type 0 where
+  pub pass : at.pass < setting.plan.passes
+  pub index : at.index < length (seats at.pass)
 
 -- what was dealt is of the trace
 abbrev pub AreOfTrace : List Line → (ℕ → List Seat) → Type 0
@@ -86,3 +100,24 @@ RoundsAreARun =
     → AreRounds setting lines searches history seats → AllByRecursion IsOver seats
     → (plays : List Play) × IsRun true setting lines history plays
     × (map ended_as plays ≡ filter_map ended_in (map (λ s. s.turn) seats))
+
+-- A turn of the caller, whose pass has all the rights, is a round in which it alone plays one transaction.
+abbrev pub CallersTurn : Type 0
+CallersTurn =
+    (setting : Setting) (found : List Search) (old new : PassView) (was is : Seat)
+    → old.number ≡ 0 → IsSound setting old → HasAll setting old → PlaysOn setting found old new was is
+    → IsRound setting found old.front new.front (only was) (only is)
+
+-- It leaves the others as they are.
+abbrev pub CallerMovesOne : Type 0
+CallerMovesOne =
+    (setting : Setting) (seats : List Seat) (index : ℕ) (was is : Seat)
+    → 0 < setting.plan.passes → AreDistinct seats → index < length seats → was ≡ slice_index_or seats index was
+    → AreMoved setting (only was) (only is) seats (slice_set seats index is)
+
+-- Behind a round the transactions are where they were dealt, in whatever order they are told.
+abbrev pub DealtAreMoved : Type 0
+DealtAreMoved =
+    (setting : Setting) (found : List Search) (before history : List Event) (were are : ℕ → List Seat) (places : List Dealt)
+    → IsRound setting found before history were are → AllByRecursion (IsDealt setting were) places
+    → AreMoved setting were are (map (seat_at were) places) (map (seat_at are) places)

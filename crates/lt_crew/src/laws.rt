@@ -1,5 +1,5 @@
 //! Laws of crews.
-ghost use Rattle.lt_crew.specs.Rounds.{RoundsAreARun, RoundsStand};
+ghost use Rattle.lt_crew.specs.Rounds.{CallerMovesOne, CallersTurn, DealtAreMoved, RoundsAreARun, RoundsStand};
 
 /// Behind rounds each transaction of the trace has come as far as its own events of the one legal history tell, and no
 /// other has an event.
@@ -13,4 +13,19 @@ pub fn rounds_stand()
 #[tactic(auto, using(crate::proofs::CrewRunLaws::rounds_are_a_run))]
 pub fn rounds_are_a_run()
     ensures { RoundsAreARun }
+{}
+
+/// A turn of the caller, whose pass has all the rights, is a round in which it alone plays one transaction.
+pub fn callers_turn()
+    ensures { CallersTurn }
+{}
+
+/// Such a turn leaves the other transactions as they are.
+pub fn caller_moves_one()
+    ensures { CallerMovesOne }
+{}
+
+/// Behind a round the transactions are where they were dealt, in whatever order they are told.
+pub fn dealt_are_moved()
+    ensures { DealtAreMoved }
 {}
