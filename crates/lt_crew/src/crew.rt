@@ -14,7 +14,7 @@ use std::thread;
 use std::thread::Threads;
 
 /// Each worker plays in a thread.
-fn side_by_side<R: Threads + Sync, Y: Yard, G: Gate>(
+pub(crate) fn side_by_side<R: Threads + Sync, Y: Yard, G: Gate>(
     rt: &R,
     yard: &Y,
     workers: &mut [Worker<Y::Pass>],

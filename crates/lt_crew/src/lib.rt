@@ -10,3 +10,6 @@ mod worker;
 pub use crew::round;
 pub use gate::{Gate, OpenGate};
 pub use worker::Worker;
+
+#[cfg(test)]
+mod tests;
