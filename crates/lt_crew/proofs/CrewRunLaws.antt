@@ -1,7 +1,6 @@
 -- Rounds, from the opening to the end, are a run.
-use Rattle.std.proofs.Common.{◌≡◌, ◌≢◌, Contains, ℕ, zero, suc, ◌+◌, ◌<◌, ◌≤◌, List, [], ◌∷◌, ◌++◌, Bool, true, false, ◌==◌, ◌||◌, if◌then◌else◌, IsTrue, length, map, refl, sym, ap, ◌∙◌, subst, arith, length-append}
+use Rattle.std.proofs.Common.{◌≡◌, ◌≢◌, Contains, ℕ, suc, ◌<◌, ◌≤◌, List, [], ◌∷◌, ◌++◌, Bool, true, false, length, map, refl, sym, ap, ◌∙◌, subst, arith, length-append}
 use Rattle.std.specs.List.{AllByRecursion}
-use Rattle.lt_ranges.specs.Numbers.{is_in}
 use Rattle.lt_seq.specs.declared.event.Event.{Event}
 use Rattle.lt_seq.specs.Table.{Setting}
 use Rattle.lt_seq.specs.History.{IsFront}
@@ -14,11 +13,11 @@ use Rattle.lt_runner.specs.TurnView.{Seat}
 use Rattle.lt_runner.specs.Seats.{opening_seat}
 use Rattle.lt_runner.specs.Plays.{Past, next_wish, wish_in, lines_for, opening_stage}
 use Rattle.lt_runner.specs.Run.{IsListedRightly}
-use Rattle.lt_runner.specs.Played.{Search, Fits, IsPastAt, Stands, AllStand, IsOver}
+use Rattle.lt_runner.specs.Played.{Search, IsPastAt, Stands, AllStand}
 use Rattle.lt_runner.proofs.ListedLaws.{search_more, receipts_within}
 use Rattle.lt_runner.proofs.RunLaws.{come_is_run}
-use Rattle.lt_crew.specs.Crew.{numbers_in, IsRound, only}
-use Rattle.lt_crew.specs.Rounds.{AreMoved, AreOfTrace, IsListedNow, IsSearchOf, AreRounds, opened, worked, searched, opening_seats, RoundsStand, RoundsAreARun}
+use Rattle.lt_crew.specs.Crew.{numbers_in, only}
+use Rattle.lt_crew.specs.Rounds.{IsListedNow, AreRounds, opened, worked, searched, opening_seats, RoundsStand, RoundsAreARun}
 use Rattle.lt_crew.proofs.MovedLaws.{only_there}
 use Rattle.lt_crew.proofs.StandLaws.{all_stand}
 

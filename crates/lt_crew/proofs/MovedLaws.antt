@@ -1,15 +1,12 @@
 -- Where the transactions are behind a round.
-use Rattle.std.proofs.Common.{◌≡◌, ◌≢◌, ℕ, zero, suc, ◌<◌, List, [], ◌∷◌, Bool, true, false, ◌==◌, ◌||◌, if◌then◌else◌, IsTrue, length, get_or, set, map, refl, sym, ap, ◌∙◌, arith}
-use Rattle.std.specs.List.{AllByRecursion}
+use Rattle.std.proofs.Common.{◌≡◌, ◌≢◌, ℕ, zero, suc, ◌<◌, List, [], ◌∷◌, Bool, true, false, ◌==◌, ◌||◌, IsTrue, length, get_or, set, refl, sym, ap, ◌∙◌, arith}
 use Rattle.std.proofs.lemmas.List.{get_or_default}
 use Rattle.lt_ranges.specs.Numbers.{is_in}
-use Rattle.lt_seq.specs.declared.event.Event.{Event}
 use Rattle.lt_seq.specs.Table.{Setting}
 use Rattle.lt_runner.specs.TurnView.{Seat}
 use Rattle.lt_runner.specs.Seats.{opening_seat}
-use Rattle.lt_runner.specs.Played.{Search}
-use Rattle.lt_crew.specs.Crew.{numbers_in, AreDistinct, IsRound, only}
-use Rattle.lt_crew.specs.Rounds.{IsMoved, played, stayed, AreMoved, Dealt, seat_at, IsDealt, CallerMovesOne, DealtAreMoved}
+use Rattle.lt_crew.specs.Crew.{numbers_in, only}
+use Rattle.lt_crew.specs.Rounds.{IsMoved, played, stayed, AreMoved, seat_at, CallerMovesOne, DealtAreMoved}
 use Rattle.lt_crew.proofs.OwnLaws.{eq_of}
 
 -- the one that the caller alone plays

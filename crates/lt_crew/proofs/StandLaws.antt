@@ -1,5 +1,5 @@
 -- All transactions of a trace, behind a round.
-use Rattle.std.proofs.Common.{◌≡◌, ◌≢◌, ℕ, zero, suc, ◌+◌, ◌<◌, ◌≤◌, List, [], ◌∷◌, ◌++◌, Bool, true, false, ◌==◌, if◌then◌else◌, IsTrue, length, get_or, map, refl, sym, ap, subst, ◌∙◌, arith, append-nil, eq-eqb}
+use Rattle.std.proofs.Common.{◌≡◌, ◌≢◌, ℕ, zero, suc, ◌+◌, ◌<◌, List, [], ◌∷◌, ◌++◌, Bool, true, false, ◌==◌, if◌then◌else◌, IsTrue, length, get_or, refl, sym, ap, subst, ◌∙◌, arith, append-nil}
 use Rattle.std.specs.List.{AllByRecursion}
 use Rattle.std.proofs.lemmas.Bool.{false≢true}
 use Rattle.std.proofs.lemmas.Bool.Decides.{nat_tests}
@@ -7,16 +7,16 @@ use Rattle.lt_ranges.specs.Numbers.{is_in}
 use Rattle.lt_seq.specs.declared.event.Event.{Event}
 use Rattle.lt_seq.specs.declared.event.Receipt.{Receipt}
 use Rattle.lt_seq.specs.Table.{Setting}
-use Rattle.lt_seq.specs.History.{IsLegal, IsFront, calls_from}
+use Rattle.lt_seq.specs.History.{calls_from}
 use Rattle.lt_seq.specs.Questions.{events_of}
-use Rattle.lt_seq.specs.Yard.{PassView, HasAll, Goes, IsSound, place_after}
+use Rattle.lt_seq.specs.Yard.{PassView, HasAll, IsSound, place_after}
 use Rattle.lt_seq.proofs.HistoryLaws.{calls-append, front_itself}
 use Rattle.lt_trace.specs.declared.line.Line.{Line}
 use Rattle.lt_trace.specs.Grammar.{txns_of}
 use Rattle.lt_runner.specs.TurnView.{Seat}
 use Rattle.lt_runner.specs.Played.{Search, Fits, Stands, AllStand}
 use Rattle.lt_runner.specs.PlaysOn.{PlaysOn}
-use Rattle.lt_runner.proofs.ChoiceLaws.{on_true, on_false}
+use Rattle.lt_runner.proofs.ChoiceLaws.{on_false}
 use Rattle.lt_runner.proofs.CaughtLaws.{all_append}
 use Rattle.lt_crew.specs.Crew.{numbers_in, AreApart, PlaysAll, Worked, IsRound, only}
 use Rattle.lt_crew.specs.Rounds.{IsMoved, played, stayed, AreMoved, AreOfTrace}

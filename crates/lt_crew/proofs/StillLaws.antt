@@ -1,5 +1,5 @@
 -- A worker plays a transaction as far as it can.
-use Rattle.std.proofs.Common.{◌≡◌, ◌⊎◌, ℕ, ◌+◌, ◌<◌, ◌≤◌, List, [], ◌∷◌, false, true, IsTrue, is_some, length, refl, sym, ap, subst, ◌∙◌, inl, inr, arith}
+use Rattle.std.proofs.Common.{◌≡◌, ◌⊎◌, ℕ, ◌+◌, ◌≤◌, List, [], ◌∷◌, IsTrue, is_some, length, refl, sym, ap, ◌∙◌, inl, inr, arith}
 use Rattle.std.proofs.lemmas.Bool.{false≢true}
 use Rattle.lt_trace.specs.declared.line.Line.{Line}
 use Rattle.lt_runner.specs.TurnView.{Seat}

@@ -1,7 +1,7 @@
 -- Workers' passes.
-use Rattle.std.proofs.Common.{◌≡◌, ◌⊎◌, ℕ, zero, suc, ◌+◌, ◌-◌, ◌<◌, ◌≤◌, List, [], ◌∷◌, ◌++◌, Bool, false, IsTrue, length, get_or, map, set, refl, sym, ap, subst, ◌∙◌, inl, inr, arith, append-nil}
+use Rattle.std.proofs.Common.{◌≡◌, ◌⊎◌, ℕ, zero, suc, ◌+◌, ◌<◌, ◌≤◌, List, [], ◌∷◌, ◌++◌, false, IsTrue, length, get_or, set, refl, sym, ap, subst, ◌∙◌, inl, inr, arith, append-nil}
 use Rattle.std.proofs.lemmas.Bool.{cases_lt}
-use Rattle.std.proofs.lemmas.List.{nil_from_length, length-append, length-map, get_or-map}
+use Rattle.std.proofs.lemmas.List.{nil_from_length, length-append, get_or-map}
 use Rattle.std.specs.Global.{Vec}
 use Rattle.std.specs.List.{All}
 use Rattle.lt_ranges.specs.Numbers.{is_in}
@@ -14,7 +14,7 @@ use Rattle.lt_runner.specs.TurnView.{Seat}
 use Rattle.lt_runner.specs.PlaysOn.{IsFit}
 use Rattle.lt_crew.specs.declared.worker.Worker.{Worker}
 use Rattle.lt_crew.specs.Crew.{PlaysAll, IsStill, Worked, IsRound, AreDistinct, numbers_in}
-use Rattle.lt_crew.specs.Workers.{UpTo, EachPair, AllBelow, IsTold, IsLent, IsTaken, IsResting, HasWorked, AreInOrder, AreParted, IsSeenBy, HasTaken, HasPlayed, seats_by}
+use Rattle.lt_crew.specs.Workers.{UpTo, EachPair, AllBelow, IsTold, IsLent, IsTaken, IsResting, HasWorked, AreInOrder, IsSeenBy, HasTaken, HasPlayed, seats_by}
 use Rattle.lt_crew.proofs.RoundLaws.{worked_by, worked_none}
 use Rattle.lt_crew.proofs.PairLaws.{below_set, below_weaker}
 

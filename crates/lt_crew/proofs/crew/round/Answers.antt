@@ -1,7 +1,6 @@
-use Rattle.std.proofs.Common.{ap, refl, ◌∙◌, sym, subst, rules, arith}
+use Rattle.std.proofs.Common.{ap, refl, ◌∙◌, subst}
 use Rattle.lt_seq.specs.Yard.{PassView, origin_of}
 use Rattle.lt_seq.specs.History.{IsFront}
-use Rattle.lt_crew.specs.Workers.{HasTaken}
 use Rattle.lt_crew.proofs.ResultLaws.{on_ok, on_both}
 use Rattle.lt_crew.proofs.WorkerLaws.{ordered_still, round_is}
 use Rattle.lt_crew.proofs.crew.round.Goals as goal
