@@ -1,5 +1,5 @@
 -- A worker plays a transaction as far as it can.
-use Rattle.std.proofs.Common.{◌≡◌, ◌⊎◌, ℕ, ◌+◌, ◌≤◌, List, [], ◌∷◌, IsTrue, is_some, length, refl, sym, ap, ◌∙◌, inl, inr, arith}
+use Rattle.std.proofs.Common.{◌≡◌, ◌⊎◌, ℕ, ◌+◌, ◌≤◌, List, [], ◌∷◌, IsTrue, is_some, length, refl, sym, ap, ◌∙◌, inl, inr, arith, ◌<◌, subst}
 use Rattle.std.proofs.lemmas.Bool.{false≢true}
 use Rattle.lt_trace.specs.declared.line.Line.{Line}
 use Rattle.lt_runner.specs.TurnView.{Seat}
@@ -26,9 +26,18 @@ some_line : (seat : Seat) (line : Line) (rest : List Line) → seat.turn.lines �
 some_line seat line rest is none = let no = ap length (sym is ∙ none) in omega (arith, no)
 
 -- one play more, at a line
+by_more : (lines plays : ℕ) (was is : Seat) (line : Line) (rest : List Line) → MayGo was → was.turn.lines ≡ line ∷ rest → (IsTrue (is_some was.turn.outcome) → was.turn.lines ≡ []) →
+    IsWithin lines plays was → (on : IsOn was is) → (IsStuck is ⊎ ((length is.turn.lines < length was.turn.lines) ⊎ (IsTrue (is_some was.turn.outcome) × (is.turn ≡ record was.turn { releases = [] })))) →
+    IsWithin lines (plays + 1) is
+by_more lines plays was is line rest goes next over (inl stuck) on by = absurd (not_stuck was goes stuck)
+by_more lines plays was is line rest goes next over (inr few) on (inl stuck) = inl stuck
+by_more lines plays was is line rest goes next over (inr few) on (inr (inl less)) = inr (omega (arith, few, less))
+by_more lines plays was is line rest goes next over (inr few) on (inr (inr ended)) = absurd (some_line was line rest next (over ended.0))
+
 pub within_more : (lines plays : ℕ) (was is : Seat) (line : Line) (rest : List Line) → MayGo was → was.turn.lines ≡ line ∷ rest → (IsTrue (is_some was.turn.outcome) → was.turn.lines ≡ []) →
     IsWithin lines plays was → IsOn was is → IsWithin lines (plays + 1) is
-within_more lines plays was is line rest goes next over (inl stuck) on = absurd (not_stuck was goes stuck)
-within_more lines plays was is line rest goes next over (inr few) (inl stuck) = inl stuck
-within_more lines plays was is line rest goes next over (inr few) (inr (inl less)) = inr (omega (arith, few, less))
-within_more lines plays was is line rest goes next over (inr few) (inr (inr ended)) = absurd (some_line was line rest next (over ended.0))
+within_more lines plays was is line rest goes next over within on = by_more lines plays was is line rest goes next over within on on.by
+
+-- one that is played was not stuck at first
+pub not_stuck_first : (first was is : Seat) → MayGo was → (IsStuck first → was ≡ first) → IsStuck first → is ≡ first
+not_stuck_first first was is goes same stuck = absurd (not_stuck was goes (subst IsStuck (sym (same stuck)) stuck))

@@ -13,8 +13,8 @@ use Rattle.lt_seq.proofs.HistoryLaws.{front_on, front_itself}
 use Rattle.lt_runner.specs.TurnView.{Seat}
 use Rattle.lt_runner.specs.PlaysOn.{IsFit}
 use Rattle.lt_crew.specs.declared.worker.Worker.{Worker}
-use Rattle.lt_crew.specs.Crew.{PlaysAll, IsStill, Worked, IsRound, AreDistinct, numbers_in}
-use Rattle.lt_crew.specs.Workers.{UpTo, EachPair, AllBelow, IsTold, IsLent, IsTaken, IsResting, HasWorked, AreInOrder, IsSeenBy, HasTaken, HasPlayed, seats_by}
+use Rattle.lt_crew.specs.Crew.{PlaysAll, IsPlayedOut, Worked, IsRound, AreDistinct, numbers_in}
+use Rattle.lt_crew.specs.Workers.{UpTo, EachPair, AreOut, AllBelow, IsTold, IsLent, IsTaken, IsResting, HasWorked, AreInOrder, IsSeenBy, HasTaken, HasPlayed, seats_by}
 use Rattle.lt_crew.proofs.RoundLaws.{worked_by, worked_none}
 use Rattle.lt_crew.proofs.PairLaws.{below_set, below_weaker}
 
@@ -103,7 +103,7 @@ module _ {P : Type 0} (origin : P → Origin) (view : P → PassView) (place : O
         pass = told.pass ∙ (λ i. record (taken.pass i) { front = history });
         sound = told.sound;
         fit = subst (λ (s : Vec Seat). All (IsFit place.setting) s.items) (sym seats) (worked.fit memory);
-        still = subst (λ (s : Vec Seat). All IsStill s.items) (sym seats) (worked.still memory);
+        out = subst (λ (s : Vec Seat). EachPair IsPlayedOut a.turns.items s.items) (sym seats) (worked.out memory);
         memory = told.memory ∙ taken.memory ∙ memory;
       }
 
@@ -211,3 +211,10 @@ module _ {P : Type 0} (origin : P → Origin) (view : P → PassView) (place : O
       apart = ordered.parted;
       worked = worked_pass me now mine zeroth same began ended sound sound_now count;
     }
+
+    -- each worker's transactions were played as far as it can
+    pub all_out : EachPair AreOut old new
+    all_out = (
+      plays.0 ∙ lends.0,
+      λ k d h. subst (λ (s : Vec Seat). EachPair IsPlayedOut s.items (get_or new k d).turns.items) (lends.1 k d h).turns (plays.1 k d (there k h)).out,
+    )

@@ -1,5 +1,5 @@
 -- Transactions that the passes of a crew play side by side.
-use Rattle.std.specs.Prelude.{zero, suc, ◌≡◌, ◌⊎◌, ◌==◌, ℕ, ◌<◌, List, [], ◌∷◌, ◌++◌, map, filter, length, slice_index_or, is_some, true, false, IsTrue}
+use Rattle.std.specs.Prelude.{zero, suc, ◌≡◌, ◌⊎◌, ◌==◌, ℕ, ◌<◌, ◌≤◌, List, [], ◌∷◌, ◌++◌, map, filter, length, slice_index_or, is_some, true, false, IsTrue}
 use Rattle.std.specs.List.{AllByRecursion}
 use Rattle.lt_ranges.specs.Numbers.{is_in}
 use Rattle.lt_seq.specs.declared.event.Event.{Event}
@@ -36,10 +36,17 @@ pub record IsDone (seat : Seat) : Type 0 where
 abbrev pub IsStill : Seat → Type 0
 IsStill seat = IsStuck seat ⊎ IsDone seat
 
--- One play brought it on: it is stuck, or fewer lines are left, or it had ended and has given back all.
-abbrev pub IsOn : Seat → Seat → Type 0
-IsOn was is = IsStuck is ⊎ ((length is.turn.lines < length was.turn.lines)
-    ⊎ (IsTrue (is_some was.turn.outcome) × (is.turn ≡ record was.turn { releases = [] })))
+-- One play brought it on: no line came to it, and it is stuck, or fewer lines are left, or it had ended and has given back all.
+pub record IsOn (was is : Seat) : Type 0 where
+  pub lines : length is.turn.lines ≤ length was.turn.lines
+  pub by : IsStuck is ⊎ ((length is.turn.lines < length was.turn.lines)
+      ⊎ (IsTrue (is_some was.turn.outcome) × (is.turn ≡ record was.turn { releases = [] })))
+
+-- A worker played it as far as it can: no line came to it, and one that was stuck is left as it was.
+pub record IsPlayedOut (was is : Seat) : Type 0 where
+  pub lines : length is.turn.lines ≤ length was.turn.lines
+  pub stuck : IsStuck was → is ≡ was
+  pub still : IsStill is
 
 -- no two have one number
 abbrev pub AreDistinct : List Seat → Type 0

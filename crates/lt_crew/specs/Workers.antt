@@ -8,7 +8,7 @@ use Rattle.lt_seq.specs.History.{IsFront}
 use Rattle.lt_runner.specs.TurnView.{Seat}
 use Rattle.lt_runner.specs.PlaysOn.{IsFit, IsReady}
 use Rattle.lt_crew.specs.declared.worker.Worker.{Worker}
-use Rattle.lt_crew.specs.Crew.{PlaysAll, IsStill, AreDistinct, AreApart, numbers_in}
+use Rattle.lt_crew.specs.Crew.{PlaysAll, IsPlayedOut, AreDistinct, AreApart, numbers_in}
 
 -- each element stands in a relation to the one that was at its place
 abbrev pub EachPair : {X : Type 0} → (X → X → Type 0) → List X → List X → Type 0
@@ -33,6 +33,10 @@ seats_by {P} workers (suc k) = slice_index_or (map (λ w. w.turns.items) workers
 abbrev pub AreParted : {P : Type 0} → List (Worker P) → Type 0
 AreParted {P} workers = AreApart (λ pass. numbers_in (seats_by workers pass))
 
+-- a worker played each of its transactions as far as it can
+abbrev pub AreOut : {P : Type 0} → Worker P → Worker P → Type 0
+AreOut {P} old new = EachPair IsPlayedOut old.turns.items new.turns.items
+
 module _ {P : Type 0} (origin : P → Origin) (view : P → PassView) (place : Origin) where
   -- a worker that may play
   pub record IsManned (worker : Worker P) : Type 0 where
@@ -47,7 +51,7 @@ module _ {P : Type 0} (origin : P → Origin) (view : P → PassView) (place : O
     pub of : origin new.pass ≡ place
     pub fit : new.short ≡ false → All (IsFit place.setting) new.turns.items
     pub plays : new.short ≡ false → PlaysAll place.setting [] (view old.pass) (view new.pass) old.turns.items new.turns.items
-    pub still : new.short ≡ false → All IsStill new.turns.items
+    pub out : new.short ≡ false → AreOut old new
 
   -- between two rounds: it has no right, and has seen the history
   pub record IsResting (history : List Event) (worker : Worker P) : Type 0 where
@@ -116,5 +120,5 @@ module _ {P : Type 0} (origin : P → Origin) (view : P → PassView) (place : O
     pub pass : view new.pass ≡ record between { rights = 0; front = history }
     pub sound : IsSound place.setting (view new.pass)
     pub fit : All (IsFit place.setting) new.turns.items
-    pub still : All IsStill new.turns.items
+    pub out : AreOut old new
     pub memory : new.short ≡ false

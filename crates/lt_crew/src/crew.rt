@@ -3,8 +3,8 @@ ghost use Rattle.std.specs.Prelude.{◌≡◌, [], ◌+◌, ◌-◌, ◌≤◌, 
 ghost use Rattle.lt_seq.specs.Yard.{origin_of, Learns, IsSound};
 ghost use Rattle.lt_seq.specs.History.{IsFront};
 ghost use Rattle.lt_crew.specs.Workers.{IsManned, HasWorked, IsResting, IsLent, IsTaken, IsTold, HasTaken};
-ghost use Rattle.lt_crew.specs.Workers.{IsSeenBy, EachPair, HasPlayed, IsCaller, AreInOrder, seats_by};
-ghost use Rattle.lt_crew.specs.Crew.{IsRound, IsStill};
+ghost use Rattle.lt_crew.specs.Workers.{IsSeenBy, EachPair, AreOut, HasPlayed, IsCaller, AreInOrder, seats_by};
+ghost use Rattle.lt_crew.specs.Crew.{IsRound};
 
 use crate::gate::Gate;
 use crate::worker::{Worker, play};
@@ -194,7 +194,7 @@ pub fn round<R: Threads + Sync, Y: Yard, G: Gate>(
     ensures caller { OnOk result (IsCaller (Y.setting yard.now) (length workers.old) (Y.Pass.view me.new)) }
     ensures resting { OnOk result (All (IsResting Y.Pass.origin Y.Pass.view (origin_of (Y.identity yard.now) (Y.setting yard.now))
         (Y.Pass.view me.new).front) workers.new) }
-    ensures still { OnOk result (All (λ w. All IsStill w.turns.items) workers.new) }
+    ensures out { OnOk result (EachPair AreOut workers.old workers.new) }
     ensures ordered { OnOk result (AreInOrder Y.Pass.view workers.new) }
     ensures round { OnOk result (IsRound (Y.setting yard.now) [] (Y.Pass.view me.old).front (Y.Pass.view me.new).front (seats_by
         workers.old) (seats_by workers.new)) }

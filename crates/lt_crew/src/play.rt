@@ -1,8 +1,8 @@
 //! One transaction's lines, by a worker's pass.
-ghost use Rattle.std.specs.Prelude.{◌≡◌, ◌≢◌, ◌⊎◌, [], OnOk, false, true, is_some, IsTrue, None};
+ghost use Rattle.std.specs.Prelude.{◌≡◌, ◌≢◌, ◌⊎◌, ◌≤◌, length, [], OnOk, false, true, is_some, IsTrue, None};
 ghost use Rattle.lt_seq.specs.Yard.{origin_of};
 ghost use Rattle.lt_runner.specs.PlaysOn.{IsFit, IsReady, PlaysOn};
-ghost use Rattle.lt_crew.specs.Crew.{MayGo, IsStuck, IsStill, IsOn};
+ghost use Rattle.lt_crew.specs.Crew.{MayGo, IsStuck, IsOn, IsPlayedOut};
 
 use crate::gate::Gate;
 use lt_runner::Turn;
@@ -51,6 +51,8 @@ fn play_lines<Y: Yard, G: Gate>(
     ensures of { Y.Pass.origin pass.new ≡ origin_of (Y.identity yard.now) (Y.setting yard.now) }
     ensures fit { OnOk result (IsFit (Y.setting yard.now) turn.new) }
     ensures plays { OnOk result (PlaysOn (Y.setting yard.now) [] (Y.Pass.view pass.old) (Y.Pass.view pass.new) turn.old turn.new) }
+    ensures lines { OnOk result (length turn.new.turn.lines ≤ length turn.old.turn.lines) }
+    ensures stuck { OnOk result (IsStuck turn.old → turn.new ≡ turn.old) }
     ensures played { OnOk result (IsStuck turn.new ⊎ (turn.new.turn.lines ≡ [])) }
 {
     for _line in 0..turn.lines_left() {
@@ -81,7 +83,7 @@ pub(crate) fn play_turn<Y: Yard, G: Gate>(
     ensures of { Y.Pass.origin pass.new ≡ origin_of (Y.identity yard.now) (Y.setting yard.now) }
     ensures fit { OnOk result (IsFit (Y.setting yard.now) turn.new) }
     ensures plays { OnOk result (PlaysOn (Y.setting yard.now) [] (Y.Pass.view pass.old) (Y.Pass.view pass.new) turn.old turn.new) }
-    ensures still { OnOk result (IsStill turn.new) }
+    ensures out { OnOk result (IsPlayedOut turn.old turn.new) }
 {
     play_lines(yard, pass, turn, gate)?;
     if turn.has_ended() && may_go(turn) {

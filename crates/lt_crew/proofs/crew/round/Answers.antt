@@ -2,7 +2,7 @@ use Rattle.std.proofs.Common.{ap, refl, ◌∙◌, subst}
 use Rattle.lt_seq.specs.Yard.{PassView, origin_of}
 use Rattle.lt_seq.specs.History.{IsFront}
 use Rattle.lt_crew.proofs.ResultLaws.{on_ok, on_both}
-use Rattle.lt_crew.proofs.WorkerLaws.{ordered_still, round_is}
+use Rattle.lt_crew.proofs.WorkerLaws.{ordered_still, round_is, all_out}
 use Rattle.lt_crew.proofs.crew.round.Goals as goal
 
 pub returns-clause-ordered : goal.returns-clause-ordered
@@ -10,6 +10,13 @@ returns-clause-ordered g c =
     let view = g.Y.Pass.Pass.view in
     let setting = g.Y.Yard.setting c.args.yard.now in
     on_ok c.play_lent.result (λ plays. ordered_still g.Y.Pass.Pass.origin view (origin_of (g.Y.Yard.identity c.args.yard.now) setting) (view c.args.me.now).front (view c.play_lent.new.me).front
+    c.args.workers.now c.lend.new.workers c.play_lent.new.workers c.requires.resting c.lend.ensures.workers plays c.requires.ordered) c.play_lent.ensures.played
+
+pub returns-clause-out : goal.returns-clause-out
+returns-clause-out g c =
+    let view = g.Y.Pass.Pass.view in
+    let setting = g.Y.Yard.setting c.args.yard.now in
+    on_ok c.play_lent.result (λ plays. all_out g.Y.Pass.Pass.origin view (origin_of (g.Y.Yard.identity c.args.yard.now) setting) (view c.args.me.now).front (view c.play_lent.new.me).front
     c.args.workers.now c.lend.new.workers c.play_lent.new.workers c.requires.resting c.lend.ensures.workers plays c.requires.ordered) c.play_lent.ensures.played
 
 pub returns-clause-round : goal.returns-clause-round

@@ -2,8 +2,8 @@ use Rattle.std.proofs.Common.{◌≡◌, []}
 use Rattle.std.specs.List.{All}
 use Rattle.lt_seq.specs.Yard.{origin_of}
 use Rattle.lt_runner.specs.PlaysOn.{IsFit, IsReady}
-use Rattle.lt_crew.specs.Crew.{PlaysAll, IsStill}
-use Rattle.lt_crew.specs.Workers.{AllBelow}
+use Rattle.lt_crew.specs.Crew.{PlaysAll, IsPlayedOut}
+use Rattle.lt_crew.specs.Workers.{UpTo}
 use Rattle.lt_crew.proofs.worker.play_all.Given as goal
 
 abbrev pub invariant-loop-turn : goal.invariant-loop-turn
@@ -15,5 +15,5 @@ invariant-loop-turn g l =
       ready : IsReady setting (view l.pass);
       fit : All (IsFit setting) l.turns;
       plays : PlaysAll setting [] (view l.fn.pass) (view l.pass) l.fn.turns l.turns;
-      still : AllBelow IsStill l.turn-index l.turns;
+      out : UpTo IsPlayedOut l.turn-index l.fn.turns l.turns;
     }
