@@ -54,7 +54,8 @@ opening_stand setting lines = record {
 
 -- Searches.
 
-listed_rightly : (seat : Seat) (wishes : List Wish) (setting : Setting) (history : List Event) (past : Past) → IsListedNow wishes seat → IsPastAt true setting history seat past →
+listed_rightly : (seat : Seat) (wishes : List Wish) (setting : Setting) (history : List Event) (past : Past) → IsListedNow wishes seat →
+    IsPastAt true setting history seat past →
     IsListedRightly true (record { turn = seat.turn; past = past }) wishes
 listed_rightly seat wishes setting history past now fits = record { waits = now.waits; listed = by_listed seat.listed refl }
   where
@@ -63,13 +64,17 @@ listed_rightly seat wishes setting history past now fits = record { waits = now.
     by_listed false e held = absurd (let k = fits.once e in omega (arith, k, held))
 
 -- a search that begins here
-search_begins : (setting : Setting) (searches : List Search) (made : Search) (lines : List Line) (history : List Event) (seats : List Seat) → place_after setting history ≤ made.place →
-    AllByRecursion (λ seat. seat.turn.txn ≢ made.txn → IsListedNow made.wishes seat) seats → AllByRecursion (Stands true setting searches lines history) seats →
+search_begins : (setting : Setting) (searches : List Search) (made : Search) (lines : List Line) (history : List Event) (seats : List Seat) →
+    place_after setting history ≤ made.place →
+    AllByRecursion (λ seat. seat.turn.txn ≢ made.txn → IsListedNow made.wishes seat) seats →
+    AllByRecursion (Stands true setting searches lines history) seats →
     AllByRecursion (Stands true setting (searches ++ made ∷ []) lines history) seats
 search_begins setting searches made lines history [] behind others all = tt
 search_begins setting searches made lines history (s ∷ ss) behind others all = (
-  search_more true setting searches made history (opening_stage setting s.turn.txn (lines_for s.turn.txn lines)) s (receipts_of setting.plan.first s.turn.txn history) behind
-      (receipts_within setting.plan.first s.turn.txn history) (λ other past fits. listed_rightly s made.wishes setting history past (others.0 (λ same. other (sym same))) fits) all.0,
+  search_more true setting searches made history (opening_stage setting s.turn.txn (lines_for s.turn.txn lines)) s
+      (receipts_of setting.plan.first s.turn.txn history) behind
+      (receipts_within setting.plan.first s.turn.txn history)
+      (λ other past fits. listed_rightly s made.wishes setting history past (others.0 (λ same. other (sym same))) fits) all.0,
   search_begins setting searches made lines history ss behind others.1 all.1,
 )
 
@@ -77,11 +82,13 @@ search_begins setting searches made lines history (s ∷ ss) behind others all =
 abbrev AreEarlier : Setting → List Event → List Search → Type 0
 AreEarlier setting history searches = AllByRecursion (λ s. s.place < place_after setting history) searches
 
-inside_on : (setting : Setting) (a b : List Event) (searches : List Search) → IsFront a b → AreEarlier setting a searches → AreEarlier setting b searches
+inside_on : (setting : Setting) (a b : List Event) (searches : List Search) → IsFront a b → AreEarlier setting a searches →
+    AreEarlier setting b searches
 inside_on setting a b [] front all = tt
 inside_on setting a b (s ∷ ss) front all = (omega (arith, all.0, ap length front.1, length-append a front.0), inside_on setting a b ss front all.1)
 
-inside_more : (setting : Setting) (history : List Event) (searches : List Search) (made : Search) → AreEarlier setting history searches → made.place < place_after setting history →
+inside_more : (setting : Setting) (history : List Event) (searches : List Search) (made : Search) → AreEarlier setting history searches →
+    made.place < place_after setting history →
     AreEarlier setting history (searches ++ made ∷ [])
 inside_more setting history [] made all here = (here, tt)
 inside_more setting history (s ∷ ss) made all here = (all.0, inside_more setting history ss made all.1 here)
@@ -93,11 +100,13 @@ contains_last : (searches : List Search) (made s : Search) → Contains (made �
 contains_last [] made s there = there
 contains_last (x ∷ xs) made s there = let (k, inside, is) = contains_last xs made s there in (suc k, omega (arith, inside), is)
 
-all_before : (setting : Setting) (history : List Event) (searches : List Search) (txn : ℕ) → AreEarlier setting history searches → AllByRecursion (λ s. s.txn ≢ txn → s.place < place_after setting history) searches
+all_before : (setting : Setting) (history : List Event) (searches : List Search) (txn : ℕ) → AreEarlier setting history searches →
+    AllByRecursion (λ s. s.txn ≢ txn → s.place < place_after setting history) searches
 all_before setting history [] txn all = tt
 all_before setting history (s ∷ ss) txn all = ((λ other. all.0), all_before setting history ss txn all.1)
 
-before_more : (setting : Setting) (history : List Event) (searches : List Search) (made : Search) (txn : ℕ) → AreEarlier setting history searches → made.txn ≡ txn →
+before_more : (setting : Setting) (history : List Event) (searches : List Search) (made : Search) (txn : ℕ) → AreEarlier setting history searches →
+    made.txn ≡ txn →
     AllByRecursion (λ s. s.txn ≢ txn → s.place < place_after setting history) (searches ++ made ∷ [])
 before_more setting history [] made txn all same = ((λ other. absurd (other same)), tt)
 before_more setting history (s ∷ ss) made txn all same = ((λ other. all.0), before_more setting history ss made txn all.1 same)
@@ -108,10 +117,12 @@ record IsSoFar (setting : Setting) (lines : List Line) (searches : List Search) 
   stand : AllStand true setting searches lines history seats
   inside : AreEarlier setting history searches
 
-by_rounds : (setting : Setting) (lines : List Line) (searches : List Search) (history : List Event) (seats : List Seat) → AreRounds setting lines searches history seats →
+by_rounds : (setting : Setting) (lines : List Line) (searches : List Search) (history : List Event) (seats : List Seat) →
+    AreRounds setting lines searches history seats →
     IsSoFar setting lines searches history seats
 by_rounds setting lines searches history seats (opened none nothing start) =
-    subst (λ (ss : List Search). IsSoFar setting lines ss history seats) (sym none) (subst (λ (es : List Event). IsSoFar setting lines [] es seats) (sym nothing)
+    subst (λ (ss : List Search). IsSoFar setting lines ss history seats) (sym none)
+    (subst (λ (es : List Event). IsSoFar setting lines [] es seats) (sym nothing)
     (subst (λ (all : List Seat). IsSoFar setting lines [] [] all) (sym start) (record { stand = opening_stand setting lines; inside = tt })))
 by_rounds setting lines searches history seats (worked {before = before} {old = old} were are rounds round moved there) =
     let so_far = by_rounds setting lines searches before old rounds in
@@ -120,13 +131,15 @@ by_rounds setting lines searches history seats (worked {before = before} {old = 
           (λ pass txn dealt. record { before = all_before setting before searches txn so_far.inside; among = none_among searches }) there so_far.stand;
       inside = inside_on setting before history searches round.front so_far.inside;
     }
-by_rounds setting lines _ history seats (searched {searches = searches} {before = before} {old = old} was is made rounds round moved there of_search) =
+by_rounds setting lines _ history seats
+    (searched {searches = searches} {before = before} {old = old} was is made rounds round moved there of_search) =
     let so_far = by_rounds setting lines searches before old rounds in
     let begun : AllStand true setting (searches ++ made ∷ []) lines before old = record {
       legal = so_far.stand.legal;
       numbers = so_far.stand.numbers;
       stand = search_begins setting searches made lines before old of_search.behind
-          (subst (λ (n : ℕ). AllByRecursion (λ (seat : Seat). seat.turn.txn ≢ n → IsListedNow made.wishes seat) old) (sym of_search.txn) of_search.others) so_far.stand.stand;
+          (subst (λ (n : ℕ). AllByRecursion (λ (seat : Seat). seat.turn.txn ≢ n → IsListedNow made.wishes seat) old)
+          (sym of_search.txn) of_search.others) so_far.stand.stand;
       own = so_far.stand.own;
     } in
     record {

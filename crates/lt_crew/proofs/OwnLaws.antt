@@ -21,7 +21,8 @@ pub eq_of : (a b : ℕ) → (a == b) ≡ true → a ≡ b
 eq_of a b e = grind (arith, nat_tests)
 
 -- a transaction's receipts are its own among those of the pass to which it was dealt
-pub own_receipts : (dealt : ℕ → List ℕ) (place txn pass : ℕ) (events : List Event) → AreApart dealt → EachByItsOwn dealt events → IsTrue (is_in txn (dealt pass)) →
+pub own_receipts : (dealt : ℕ → List ℕ) (place txn pass : ℕ) (events : List Event) → AreApart dealt → EachByItsOwn dealt events →
+    IsTrue (is_in txn (dealt pass)) →
     receipts_of place txn events ≡ own_in txn (calls_from place pass events)
 own_receipts dealt place txn pass [] apart each there = refl
 own_receipts dealt place txn pass (e ∷ es) apart each there =
@@ -30,22 +31,27 @@ own_receipts dealt place txn pass (e ∷ es) apart each there =
     r : Receipt
     r = record { place = place; event = e }
 
-    by_tests : (a b : Bool) → (e.txn == txn) ≡ a → (e.pass == pass) ≡ b → receipts_of (place + 1) txn es ≡ own_in txn (calls_from (place + 1) pass es) →
+    by_tests : (a b : Bool) → (e.txn == txn) ≡ a → (e.pass == pass) ≡ b →
+        receipts_of (place + 1) txn es ≡ own_in txn (calls_from (place + 1) pass es) →
         (if a then r ∷ receipts_of (place + 1) txn es else receipts_of (place + 1) txn es)
         ≡ own_in txn (if b then r ∷ calls_from (place + 1) pass es else calls_from (place + 1) pass es)
-    by_tests true true h k rest = ap (λ rs. r ∷ rs) rest ∙ sym (on_true (e.txn == txn) (r ∷ own_in txn (calls_from (place + 1) pass es)) (own_in txn (calls_from (place + 1) pass es)) h)
+    by_tests true true h k rest = ap (λ rs. r ∷ rs) rest
+        ∙ sym (on_true (e.txn == txn) (r ∷ own_in txn (calls_from (place + 1) pass es)) (own_in txn (calls_from (place + 1) pass es)) h)
     by_tests true false h k rest =
         let own : IsTrue (is_in txn (dealt e.pass)) = subst (λ (n : ℕ). IsTrue (is_in n (dealt e.pass))) (eq_of e.txn txn h) each.0 in
         absurd (false≢true (sym k ∙ eq-eqb e.pass pass (apart txn e.pass pass own there)))
-    by_tests false true h k rest = rest ∙ sym (on_false (e.txn == txn) (r ∷ own_in txn (calls_from (place + 1) pass es)) (own_in txn (calls_from (place + 1) pass es)) h)
+    by_tests false true h k rest = rest
+        ∙ sym (on_false (e.txn == txn) (r ∷ own_in txn (calls_from (place + 1) pass es)) (own_in txn (calls_from (place + 1) pass es)) h)
     by_tests false false h k rest = rest
 
 -- one that was dealt to no pass has none
-pub no_receipts : (dealt : ℕ → List ℕ) (place txn : ℕ) (events : List Event) → EachByItsOwn dealt events → ((pass : ℕ) → IsTrue (is_in txn (dealt pass)) → ⊥) → receipts_of place txn events ≡ []
+pub no_receipts : (dealt : ℕ → List ℕ) (place txn : ℕ) (events : List Event) → EachByItsOwn dealt events →
+    ((pass : ℕ) → IsTrue (is_in txn (dealt pass)) → ⊥) → receipts_of place txn events ≡ []
 no_receipts dealt place txn [] each none = refl
 no_receipts dealt place txn (e ∷ es) each none = by_test (e.txn == txn) refl (no_receipts dealt (place + 1) txn es each.1 none)
   where
-    by_test : (a : Bool) → (e.txn == txn) ≡ a → receipts_of (place + 1) txn es ≡ [] → (if a then record { place = place; event = e } ∷ receipts_of (place + 1) txn es else receipts_of (place + 1) txn es) ≡ []
+    by_test : (a : Bool) → (e.txn == txn) ≡ a → receipts_of (place + 1) txn es ≡ [] →
+        (if a then record { place = place; event = e } ∷ receipts_of (place + 1) txn es else receipts_of (place + 1) txn es) ≡ []
     by_test true h rest = absurd (none e.pass (subst (λ (n : ℕ). IsTrue (is_in n (dealt e.pass))) (eq_of e.txn txn h) each.0))
     by_test false h rest = rest
 
@@ -53,30 +59,39 @@ no_receipts dealt place txn (e ∷ es) each none = by_test (e.txn == txn) refl (
 pub each_by_own : (passes : ℕ) (dealt : ℕ → List ℕ) (place : ℕ) (events : List Event) → AllByRecursion (λ e. e.pass < passes) events →
     ((pass : ℕ) → pass < passes → AreDealt (dealt pass) (calls_from place pass events)) → EachByItsOwn dealt events
 each_by_own passes dealt place [] there each = tt
-each_by_own passes dealt place (e ∷ es) there each =
-    (first (e.pass == e.pass) (eq-eqb e.pass e.pass refl) (each e.pass there.0), each_by_own passes dealt (place + 1) es there.1 (λ pass inside. later pass (e.pass == pass) (each pass inside)))
+each_by_own passes dealt place (e ∷ es) there each = (
+  first (e.pass == e.pass) (eq-eqb e.pass e.pass refl) (each e.pass there.0),
+  each_by_own passes dealt (place + 1) es there.1
+      (λ pass inside. later pass (e.pass == pass) (each pass inside)),
+)
   where
     r : Receipt
     r = record { place = place; event = e }
 
-    first : (b : Bool) → b ≡ true → AreDealt (dealt e.pass) (if b then r ∷ calls_from (place + 1) e.pass es else calls_from (place + 1) e.pass es) → IsTrue (is_in e.txn (dealt e.pass))
+    first : (b : Bool) → b ≡ true →
+        AreDealt (dealt e.pass) (if b then r ∷ calls_from (place + 1) e.pass es else calls_from (place + 1) e.pass es) →
+        IsTrue (is_in e.txn (dealt e.pass))
     first true h all = all.0
     first false h all = absurd (false≢true h)
 
-    later : (pass : ℕ) (b : Bool) → AreDealt (dealt pass) (if b then r ∷ calls_from (place + 1) pass es else calls_from (place + 1) pass es) → AreDealt (dealt pass) (calls_from (place + 1) pass es)
+    later : (pass : ℕ) (b : Bool) → AreDealt (dealt pass) (if b then r ∷ calls_from (place + 1) pass es else calls_from (place + 1) pass es) →
+        AreDealt (dealt pass) (calls_from (place + 1) pass es)
     later pass true all = all.1
     later pass false all = all
 
 -- the passes of a legal history are the plan's, also of its end
-all_passes : (setting : Setting) (es : List Event) (trees : List TreeState) → IsLegalFrom setting trees es → AllByRecursion (λ e. e.pass < setting.plan.passes) es
+all_passes : (setting : Setting) (es : List Event) (trees : List TreeState) → IsLegalFrom setting trees es →
+    AllByRecursion (λ e. e.pass < setting.plan.passes) es
 all_passes setting [] trees legal = tt
 all_passes setting (e ∷ es) trees legal = (legal.0.pass, all_passes setting es (step setting trees e) legal.1)
 
-skip_passes : (setting : Setting) (es more : List Event) (trees : List TreeState) → IsLegalFrom setting trees (es ++ more) → AllByRecursion (λ e. e.pass < setting.plan.passes) more
+skip_passes : (setting : Setting) (es more : List Event) (trees : List TreeState) → IsLegalFrom setting trees (es ++ more) →
+    AllByRecursion (λ e. e.pass < setting.plan.passes) more
 skip_passes setting [] more trees legal = all_passes setting more trees legal
 skip_passes setting (e ∷ es) more trees legal = skip_passes setting es more (step setting trees e) legal.1
 
-pub legal_passes : (setting : Setting) (events more : List Event) → IsLegal setting (events ++ more) → AllByRecursion (λ e. e.pass < setting.plan.passes) more
+pub legal_passes : (setting : Setting) (events more : List Event) → IsLegal setting (events ++ more) →
+    AllByRecursion (λ e. e.pass < setting.plan.passes) more
 legal_passes setting events more legal = skip_passes setting events more (opening setting) legal
 
 -- Its own among the receipts of several.
@@ -84,7 +99,8 @@ legal_passes setting events more legal = skip_passes setting events more (openin
 -- the receipts of one among its own are all, and among those of another none
 pub own_all : (txn : ℕ) (receipts : List Receipt) → AllByRecursion (λ r. r.event.txn ≡ txn) receipts → own_in txn receipts ≡ receipts
 own_all txn [] all = refl
-own_all txn (r ∷ rs) all = on_true (r.event.txn == txn) (r ∷ own_in txn rs) (own_in txn rs) (eq-eqb r.event.txn txn all.0) ∙ ap (λ l. r ∷ l) (own_all txn rs all.1)
+own_all txn (r ∷ rs) all = on_true (r.event.txn == txn) (r ∷ own_in txn rs) (own_in txn rs) (eq-eqb r.event.txn txn all.0)
+    ∙ ap (λ l. r ∷ l) (own_all txn rs all.1)
 
 neq_of : (a b : ℕ) → a ≢ b → (a == b) ≡ false
 neq_of a b differs = by_test (a == b) refl
@@ -96,7 +112,8 @@ neq_of a b differs = by_test (a == b) refl
 pub own_none : (txn other : ℕ) (receipts : List Receipt) → AllByRecursion (λ r. r.event.txn ≡ other) receipts → txn ≢ other → own_in txn receipts ≡ []
 own_none txn other [] all differs = refl
 own_none txn other (r ∷ rs) all differs =
-    on_false (r.event.txn == txn) (r ∷ own_in txn rs) (own_in txn rs) (neq_of r.event.txn txn (λ same. differs (sym same ∙ all.0))) ∙ own_none txn other rs all.1 differs
+    on_false (r.event.txn == txn) (r ∷ own_in txn rs) (own_in txn rs) (neq_of r.event.txn txn (λ same. differs (sym same ∙ all.0)))
+    ∙ own_none txn other rs all.1 differs
 
 pub own_in-append : (txn : ℕ) (xs ys : List Receipt) → own_in txn (xs ++ ys) ≡ own_in txn xs ++ own_in txn ys
 own_in-append txn [] ys = refl
@@ -111,7 +128,8 @@ pub dealt_append : (txns : List ℕ) (xs ys : List Receipt) → AreDealt txns xs
 dealt_append txns [] ys all rest = rest
 dealt_append txns (x ∷ xs) ys all rest = (all.0, dealt_append txns xs ys all.1 rest)
 
-pub dealt_own : (txns : List ℕ) (txn : ℕ) (receipts : List Receipt) → IsTrue (is_in txn txns) → AllByRecursion (λ r. r.event.txn ≡ txn) receipts → AreDealt txns receipts
+pub dealt_own : (txns : List ℕ) (txn : ℕ) (receipts : List Receipt) → IsTrue (is_in txn txns) → AllByRecursion (λ r. r.event.txn ≡ txn) receipts →
+    AreDealt txns receipts
 dealt_own txns txn [] there all = tt
 dealt_own txns txn (r ∷ rs) there all = (subst (λ (n : ℕ). IsTrue (is_in n txns)) (sym all.0) there, dealt_own txns txn rs there all.1)
 

@@ -9,7 +9,8 @@ module _ {X : Type 0} where
   up_to_none R xs = record { len = refl; below = λ k d h. absurd (omega arith); rest = λ k d h. refl }
 
   -- one more element
-  pub up_to_more : (R : X → X → Type 0) (i : ℕ) (old cur : List X) (was x : X) → UpTo R i old cur → i < length cur → was ≡ get_or cur i was → R (get_or cur i was) x → UpTo R (i + 1) old (set cur i x)
+  pub up_to_more : (R : X → X → Type 0) (i : ℕ) (old cur : List X) (was x : X) → UpTo R i old cur → i < length cur → was ≡ get_or cur i was →
+      R (get_or cur i was) x → UpTo R (i + 1) old (set cur i x)
   up_to_more R i old cur was x u h at r =
       let same : (d : X) → get_or old i d ≡ get_or cur i was = λ d. sym (u.rest i d (omega arith)) ∙ get_or_default cur i d was h in
       record {
@@ -18,7 +19,8 @@ module _ {X : Type 0} where
         rest = λ k d p. let ne : k ≢ i = omega arith in get_or-set_other cur i k x d ne ∙ u.rest k d (omega arith);
       }
     where
-      go : (k : ℕ) (d : X) → (k ≡ i) ⊎ (k ≢ i) → k < i + 1 → k < length old → ((e : X) → get_or old i e ≡ get_or cur i was) → R (get_or old k d) (get_or (set cur i x) k d)
+      go : (k : ℕ) (d : X) → (k ≡ i) ⊎ (k ≢ i) → k < i + 1 → k < length old → ((e : X) → get_or old i e ≡ get_or cur i was) →
+          R (get_or old k d) (get_or (set cur i x) k d)
       go k d (inl e) p q same = rw (e, get_or-set_same cur i x d h, same d) r
       go k d (inr ne) p q same = rw (get_or-set_other cur i k x d ne) (u.below k d (omega arith) q)
 

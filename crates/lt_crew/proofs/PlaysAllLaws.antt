@@ -23,19 +23,26 @@ front_place : (setting : Setting) (a b : List Event) → IsFront a b → place_a
 front_place setting a b (more, is) = omega (arith, ap length is, length-append a more)
 
 -- what fits at a front fits at what goes on from it
-before_later : (txn low high : ℕ) (searches : List Search) → low ≤ high → AllByRecursion (λ s. s.txn ≢ txn → s.place < low) searches → AllByRecursion (λ s. s.txn ≢ txn → s.place < high) searches
+before_later : (txn low high : ℕ) (searches : List Search) → low ≤ high → AllByRecursion (λ s. s.txn ≢ txn → s.place < low) searches →
+    AllByRecursion (λ s. s.txn ≢ txn → s.place < high) searches
 before_later txn low high [] le before = tt
 before_later txn low high (s ∷ ss) le before = ((λ other. let k = before.0 other in omega (arith, le, k)), before_later txn low high ss le before.1)
 
-pub fits_later : (setting : Setting) (searches found : List Search) (a b : List Event) (txn : ℕ) → IsFront a b → Fits searches found (place_after setting a) txn → Fits searches found (place_after setting b) txn
+pub fits_later : (setting : Setting) (searches found : List Search) (a b : List Event) (txn : ℕ) → IsFront a b →
+    Fits searches found (place_after setting a) txn → Fits searches found (place_after setting b) txn
 fits_later setting searches found a b txn front fits =
-    record { before = before_later txn (place_after setting a) (place_after setting b) searches (front_place setting a b front) fits.before; among = fits.among }
+    record {
+      before = before_later txn (place_after setting a) (place_after setting b) searches
+          (front_place setting a b front) fits.before;
+      among = fits.among;
+    }
 
 goes_itself : (setting : Setting) (pass : PassView) → IsSound setting pass → Goes setting pass pass
 goes_itself setting pass sound = record { number = refl; met = omega arith; front = front_itself pass.front; sound = sound }
 
 -- before the first
-pub plays_none : (setting : Setting) (found : List Search) (pass : PassView) (seats : List Seat) → IsSound setting pass → PlaysAll setting found pass pass seats seats
+pub plays_none : (setting : Setting) (found : List Search) (pass : PassView) (seats : List Seat) → IsSound setting pass →
+    PlaysAll setting found pass pass seats seats
 plays_none setting found pass seats sound = record {
   made = [];
   goes = goes_itself setting pass sound;
@@ -49,7 +56,8 @@ plays_none setting found pass seats sound = record {
 }
 
 -- one of them plays on
-pub plays_more : (setting : Setting) (found : List Search) (old pass new : PassView) (were seats : List Seat) (i : ℕ) (was is : Seat) → AreDistinct were → PlaysAll setting found old pass were seats →
+pub plays_more : (setting : Setting) (found : List Search) (old pass new : PassView) (were seats : List Seat) (i : ℕ) (was is : Seat) →
+    AreDistinct were → PlaysAll setting found old pass were seats →
     i < length seats → was ≡ get_or seats i was → PlaysOn setting found pass new was is → PlaysAll setting found old new were (set seats i is)
 plays_more setting found old pass new were seats i was is distinct so_far inside at next = record {
   made = so_far.made ++ next.made;
@@ -72,35 +80,50 @@ plays_more setting found old pass new were seats i was is distinct so_far inside
 
     txn_at : (k : ℕ) (d : Seat) → k < length were → (k ≡ i) ⊎ (k ≢ i) → (get_or (set seats i is) k d).turn.txn ≡ (get_or were k d).turn.txn
     txn_at k d within (inl same) =
-        ap (λ (n : ℕ). (get_or (set seats i is) n d).turn.txn) same ∙ ap (λ (s : Seat). s.turn.txn) (get_or-set_same seats i is d inside) ∙ next.txn ∙ number_then d
+        ap (λ (n : ℕ). (get_or (set seats i is) n d).turn.txn) same ∙ ap (λ (s : Seat). s.turn.txn) (get_or-set_same seats i is d inside)
+        ∙ next.txn ∙ number_then d
         ∙ ap (λ (n : ℕ). (get_or were n d).turn.txn) (sym same)
     txn_at k d within (inr differs) = ap (λ (s : Seat). s.turn.txn) (get_or-set_other seats i k is d differs) ∙ so_far.txns k d within
 
-    comes_at : (k : ℕ) (d : Seat) → k < length were → (k ≡ i) ⊎ (k ≢ i) → (opening : Stage) (receipts : List Receipt) (searches : List Search) → IsAtLine opening → Fits searches found (place_after setting old.front) opening.turn.txn →
+    comes_at : (k : ℕ) (d : Seat) → k < length were → (k ≡ i) ⊎ (k ≢ i) → (opening : Stage) (receipts : List Receipt) (searches : List Search) →
+        IsAtLine opening → Fits searches found (place_after setting old.front) opening.turn.txn →
         (let past_seat = get_or were k d in let now = get_or (set seats i is) k d in
-        HasCome true setting searches old.front opening past_seat receipts → HasCome true setting searches new.front opening now (receipts ++ own_in past_seat.turn.txn (so_far.made ++ next.made)))
+        HasCome true setting searches old.front opening past_seat receipts →
+        HasCome true setting searches new.front opening now (receipts ++ own_in past_seat.turn.txn (so_far.made ++ next.made)))
     comes_at k d within (inl same) opening receipts searches start fits come =
         let past_seat = get_or were k d in
         let now = get_or (set seats i is) k d in
-        let before : HasCome true setting searches pass.front opening (get_or seats k d) (receipts ++ own_in past_seat.turn.txn so_far.made) = so_far.comes k d within opening receipts searches start fits come in
+        let before : HasCome true setting searches pass.front opening (get_or seats k d)
+        (receipts ++ own_in past_seat.turn.txn so_far.made) = so_far.comes k d within opening receipts searches start fits come in
         let here : get_or seats k d ≡ was = ap (λ (n : ℕ). get_or seats n d) same ∙ get_or_default seats i d was inside ∙ sym at in
         let later : HasCome true setting searches new.front opening is ((receipts ++ own_in past_seat.turn.txn so_far.made) ++ next.made) =
-        next.comes opening (receipts ++ own_in past_seat.turn.txn so_far.made) searches start (fits_later setting searches found old.front pass.front opening.turn.txn so_far.goes.front fits) (subst (λ (s : Seat). HasCome true setting searches pass.front opening s (receipts ++ own_in past_seat.turn.txn so_far.made)) here before) in
+        next.comes opening (receipts ++ own_in past_seat.turn.txn so_far.made) searches start
+        (fits_later setting searches found old.front pass.front opening.turn.txn so_far.goes.front fits)
+        (subst (λ (s : Seat). HasCome true setting searches pass.front opening s (receipts ++ own_in past_seat.turn.txn so_far.made)) here before) in
         let mine : own_in past_seat.turn.txn next.made ≡ next.made =
-        own_all past_seat.turn.txn next.made (subst (λ (n : ℕ). AllByRecursion (λ (r : Receipt). r.event.txn ≡ n) next.made) (number_then d ∙ ap (λ (n : ℕ). (get_or were n d).turn.txn) (sym same)) next.own) in
-        let whole : (receipts ++ own_in past_seat.turn.txn so_far.made) ++ next.made ≡ receipts ++ own_in past_seat.turn.txn (so_far.made ++ next.made) =
+        own_all past_seat.turn.txn next.made
+        (subst (λ (n : ℕ). AllByRecursion (λ (r : Receipt). r.event.txn ≡ n) next.made)
+        (number_then d ∙ ap (λ (n : ℕ). (get_or were n d).turn.txn) (sym same)) next.own) in
+        let whole : (receipts ++ own_in past_seat.turn.txn so_far.made) ++ next.made ≡ receipts ++ own_in past_seat.turn.txn
+        (so_far.made ++ next.made) =
         append_assoc receipts (own_in past_seat.turn.txn so_far.made) next.made
-        ∙ ap (λ rs. receipts ++ rs) (ap (λ rs. own_in past_seat.turn.txn so_far.made ++ rs) (sym mine) ∙ sym (own_in-append past_seat.turn.txn so_far.made next.made)) in
+        ∙ ap (λ rs. receipts ++ rs)
+        (ap (λ rs. own_in past_seat.turn.txn so_far.made ++ rs) (sym mine) ∙ sym (own_in-append past_seat.turn.txn so_far.made next.made)) in
         let placed : is ≡ now = sym (ap (λ (n : ℕ). get_or (set seats i is) n d) same ∙ get_or-set_same seats i is d inside) in
-        subst (λ (s : Seat). HasCome true setting searches new.front opening s (receipts ++ own_in past_seat.turn.txn (so_far.made ++ next.made))) placed
+        subst (λ (s : Seat). HasCome true setting searches new.front opening s
+        (receipts ++ own_in past_seat.turn.txn (so_far.made ++ next.made))) placed
         (subst (λ (rs : List Receipt). HasCome true setting searches new.front opening is rs) whole later)
     comes_at k d within (inr differs) opening receipts searches start fits come =
         let past_seat = get_or were k d in
         let s = get_or seats k d in
-        let before : HasCome true setting searches pass.front opening s (receipts ++ own_in past_seat.turn.txn so_far.made) = so_far.comes k d within opening receipts searches start fits come in
+        let before : HasCome true setting searches pass.front opening s
+        (receipts ++ own_in past_seat.turn.txn so_far.made) = so_far.comes k d within opening receipts searches start fits come in
         let far : past_seat.turn.txn ≢ was.turn.txn = λ same. differs (distinct k i d within there (same ∙ number_then d)) in
         let none : own_in past_seat.turn.txn (so_far.made ++ next.made) ≡ own_in past_seat.turn.txn so_far.made =
-        own_in-append past_seat.turn.txn so_far.made next.made ∙ ap (λ rs. own_in past_seat.turn.txn so_far.made ++ rs) (own_none past_seat.turn.txn was.turn.txn next.made next.own far) ∙ append-nil (own_in past_seat.turn.txn so_far.made) in
-        subst (λ (x : Seat). HasCome true setting searches new.front opening x (receipts ++ own_in past_seat.turn.txn (so_far.made ++ next.made))) (sym (get_or-set_other seats i k is d differs))
+        own_in-append past_seat.turn.txn so_far.made next.made
+        ∙ ap (λ rs. own_in past_seat.turn.txn so_far.made ++ rs) (own_none past_seat.turn.txn was.turn.txn next.made next.own far)
+        ∙ append-nil (own_in past_seat.turn.txn so_far.made) in
+        subst (λ (x : Seat). HasCome true setting searches new.front opening x (receipts ++ own_in past_seat.turn.txn (so_far.made ++ next.made)))
+        (sym (get_or-set_other seats i k is d differs))
         (subst (λ (rs : List Receipt). HasCome true setting searches new.front opening s (receipts ++ rs)) (sym none)
         (come_on true setting searches pass.front new.front opening s (receipts ++ own_in past_seat.turn.txn so_far.made) next.goes.front before))

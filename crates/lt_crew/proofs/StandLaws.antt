@@ -25,12 +25,14 @@ use Rattle.lt_crew.proofs.PlaysAllLaws.{plays_none, plays_more}
 use Rattle.lt_crew.proofs.RoundLaws.{each_of_round, round_stands, round_waits, worked_none, worked_by, added_are}
 
 -- the number of a transaction stays
-moved_number : (setting : Setting) (found : List Search) (before history : List Event) (were are : ℕ → List Seat) (was is : Seat) → IsRound setting found before history were are → IsMoved setting were are was is → is.turn.txn ≡ was.turn.txn
+moved_number : (setting : Setting) (found : List Search) (before history : List Event) (were are : ℕ → List Seat) (was is : Seat) →
+    IsRound setting found before history were are → IsMoved setting were are was is → is.turn.txn ≡ was.turn.txn
 moved_number setting found before history were are was is round (played pass i there inside here now) =
     ap (λ (s : Seat). s.turn.txn) now ∙ (round.worked pass there).txns i was inside ∙ ap (λ (s : Seat). s.turn.txn) (sym here)
 moved_number setting found before history were are was is round (stayed same none) = ap (λ (s : Seat). s.turn.txn) same
 
-moved_numbers : (setting : Setting) (found : List Search) (before history : List Event) (were are : ℕ → List Seat) (old new : List Seat) → IsRound setting found before history were are → AreMoved setting were are old new → numbers_in new ≡ numbers_in old
+moved_numbers : (setting : Setting) (found : List Search) (before history : List Event) (were are : ℕ → List Seat) (old new : List Seat) →
+    IsRound setting found before history were are → AreMoved setting were are old new → numbers_in new ≡ numbers_in old
 moved_numbers setting found before history were are [] [] round moved = refl
 moved_numbers setting found before history were are [] (is ∷ later) round moved = absurd moved
 moved_numbers setting found before history were are (was ∷ old) [] round moved = absurd moved
@@ -39,14 +41,22 @@ moved_numbers setting found before history were are (was ∷ old) (is ∷ new) r
     let rest = moved_numbers setting found before history were are old new round moved.1 in
     λ j. here j ∷ rest j
 
-moved_stands : (setting : Setting) (searches found : List Search) (lines : List Line) (before history : List Event) (were are : ℕ → List Seat) (was is : Seat) → IsRound setting found before history were are → IsMoved setting were are was is → ((pass txn : ℕ) → IsTrue (is_in txn (numbers_in (were pass))) → Fits searches found (place_after setting before) txn) →
+moved_stands : (setting : Setting) (searches found : List Search) (lines : List Line) (before history : List Event) (were are : ℕ → List Seat)
+    (was is : Seat) → IsRound setting found before history were are → IsMoved setting were are was is →
+    ((pass txn : ℕ) → IsTrue (is_in txn (numbers_in (were pass))) → Fits searches found (place_after setting before) txn) →
     Stands true setting searches lines before was → Stands true setting searches lines history is
 moved_stands setting searches found lines before history were are was is round (played pass i there inside here now) fits stands =
-    subst (Stands true setting searches lines history) (sym now) (round_stands setting searches found lines before history were are round pass i was there inside (fits pass (get_or (were pass) i was).turn.txn (is_in_numbers (were pass) i was inside)) (subst (Stands true setting searches lines before) here stands))
+    subst (Stands true setting searches lines history) (sym now)
+    (round_stands setting searches found lines before history were are round pass i was there inside
+    (fits pass (get_or (were pass) i was).turn.txn (is_in_numbers (were pass) i was inside))
+    (subst (Stands true setting searches lines before) here stands))
 moved_stands setting searches found lines before history were are was is round (stayed same none) fits stands =
-    subst (Stands true setting searches lines history) (sym same) (round_waits setting searches found lines before history were are was round none stands)
+    subst (Stands true setting searches lines history) (sym same)
+    (round_waits setting searches found lines before history were are was round none stands)
 
-moved_stand : (setting : Setting) (searches found : List Search) (lines : List Line) (before history : List Event) (were are : ℕ → List Seat) (old new : List Seat) → IsRound setting found before history were are → AreMoved setting were are old new → ((pass txn : ℕ) → IsTrue (is_in txn (numbers_in (were pass))) → Fits searches found (place_after setting before) txn) →
+moved_stand : (setting : Setting) (searches found : List Search) (lines : List Line) (before history : List Event) (were are : ℕ → List Seat)
+    (old new : List Seat) → IsRound setting found before history were are → AreMoved setting were are old new →
+    ((pass txn : ℕ) → IsTrue (is_in txn (numbers_in (were pass))) → Fits searches found (place_after setting before) txn) →
     AllByRecursion (Stands true setting searches lines before) old → AllByRecursion (Stands true setting searches lines history) new
 moved_stand setting searches found lines before history were are [] [] round moved fits all = tt
 moved_stand setting searches found lines before history were are [] (is ∷ later) round moved fits all = absurd moved
@@ -54,13 +64,16 @@ moved_stand setting searches found lines before history were are (was ∷ old) [
 moved_stand setting searches found lines before history were are (was ∷ old) (is ∷ new) round moved fits all =
     (moved_stands setting searches found lines before history were are was is round moved.0 fits all.0, moved_stand setting searches found lines before history were are old new round moved.1 fits all.1)
 
-own_more : (txns : List ℕ) (were : ℕ → List Seat) (more : List Event) → ((pass txn : ℕ) → IsTrue (is_in txn (numbers_in (were pass))) → IsTrue (is_in txn txns)) →
+own_more : (txns : List ℕ) (were : ℕ → List Seat) (more : List Event) →
+    ((pass txn : ℕ) → IsTrue (is_in txn (numbers_in (were pass))) → IsTrue (is_in txn txns)) →
     EachByItsOwn (λ pass. numbers_in (were pass)) more → AllByRecursion (λ e. IsTrue (is_in e.txn txns)) more
 own_more txns were [] there each = tt
 own_more txns were (e ∷ es) there each = (there e.pass e.txn each.0, own_more txns were es there each.1)
 
 -- all transactions stand behind a round
-pub all_stand : (setting : Setting) (searches found : List Search) (lines : List Line) (before history : List Event) (were are : ℕ → List Seat) (old new : List Seat) → IsRound setting found before history were are → AreMoved setting were are old new → ((pass txn : ℕ) → IsTrue (is_in txn (numbers_in (were pass))) → Fits searches found (place_after setting before) txn) →
+pub all_stand : (setting : Setting) (searches found : List Search) (lines : List Line) (before history : List Event) (were are : ℕ → List Seat)
+    (old new : List Seat) → IsRound setting found before history were are → AreMoved setting were are old new →
+    ((pass txn : ℕ) → IsTrue (is_in txn (numbers_in (were pass))) → Fits searches found (place_after setting before) txn) →
     AreOfTrace lines were → AllStand true setting searches lines before old → AllStand true setting searches lines history new
 all_stand setting searches found lines before history were are old new round moved fits there all = record {
   legal = round.legal;
@@ -70,7 +83,8 @@ all_stand setting searches found lines before history were are old new round mov
       let (more, is) = round.front in
       subst (AllByRecursion (λ (e : Event). IsTrue (is_in e.txn (txns_of lines)))) (sym is)
       (all_append (λ (e : Event). IsTrue (is_in e.txn (txns_of lines))) before more all.own
-      (own_more (txns_of lines) were more there (each_of_round setting found before more were are (subst (λ (es : List Event). IsRound setting found before es were are) is round))));
+      (own_more (txns_of lines) were more there
+      (each_of_round setting found before more were are (subst (λ (es : List Event). IsRound setting found before es were are) is round))));
 }
 
 -- A turn of the caller, whose pass has all the rights, is a round in which it alone plays one transaction.
@@ -81,22 +95,26 @@ calls_own place pass [] = tt
 calls_own place pass (e ∷ es) = by_test (e.pass == pass) refl (calls_own (place + 1) pass es)
   where
     by_test : (b : Bool) → (e.pass == pass) ≡ b → AllByRecursion (λ r. r.event.pass ≡ pass) (calls_from (place + 1) pass es) →
-        AllByRecursion (λ r. r.event.pass ≡ pass) (if b then record { place = place; event = e } ∷ calls_from (place + 1) pass es else calls_from (place + 1) pass es)
+        AllByRecursion (λ r. r.event.pass ≡ pass)
+        (if b then record { place = place; event = e } ∷ calls_from (place + 1) pass es else calls_from (place + 1) pass es)
     by_test true h rest = (grind (arith, nat_tests), rest)
     by_test false h rest = rest
 
 -- so another has none among these events
-calls_none : (place pass other : ℕ) (receipts : List Receipt) → pass ≢ other → AllByRecursion (λ r. r.event.pass ≡ pass) receipts → calls_from place other (events_of receipts) ≡ []
+calls_none : (place pass other : ℕ) (receipts : List Receipt) → pass ≢ other → AllByRecursion (λ r. r.event.pass ≡ pass) receipts →
+    calls_from place other (events_of receipts) ≡ []
 calls_none place pass other [] differs all = refl
 calls_none place pass other (r ∷ rs) differs all =
-    on_false (r.event.pass == other) (record { place = place; event = r.event } ∷ calls_from (place + 1) other (events_of rs)) (calls_from (place + 1) other (events_of rs)) (by_test (r.event.pass == other) refl)
+    on_false (r.event.pass == other) (record { place = place; event = r.event } ∷ calls_from (place + 1) other (events_of rs))
+    (calls_from (place + 1) other (events_of rs)) (by_test (r.event.pass == other) refl)
     ∙ calls_none (place + 1) pass other rs differs all.1
   where
     by_test : (b : Bool) → (r.event.pass == other) ≡ b → (r.event.pass == other) ≡ false
     by_test true h = absurd (differs (let same : r.event.pass ≡ other = grind (arith, nat_tests) in sym all.0 ∙ same))
     by_test false h = h
 
-pub caller_round : (setting : Setting) (found : List Search) (old new : PassView) (was is : Seat) → old.number ≡ 0 → IsSound setting old → HasAll setting old → PlaysOn setting found old new was is → IsRound setting found old.front new.front (only was) (only is)
+pub caller_round : (setting : Setting) (found : List Search) (old new : PassView) (was is : Seat) → old.number ≡ 0 → IsSound setting old →
+    HasAll setting old → PlaysOn setting found old new was is → IsRound setting found old.front new.front (only was) (only is)
 caller_round setting found old new was is zeroth sound all plays = record {
   legal = plays.goes.sound.legal;
   front = (events_of plays.made, alone);
@@ -113,8 +131,10 @@ caller_round setting found old new was is zeroth sound all plays = record {
 
     made_own : AllByRecursion (λ r. r.event.pass ≡ 0) plays.made
     made_own =
-        let is_calls = added_are setting.plan.first 0 old.front (events_of plays.made) plays.made (ap (calls_from setting.plan.first 0) (sym alone) ∙ calls) in
-        subst (AllByRecursion (λ (r : Receipt). r.event.pass ≡ 0)) (sym is_calls) (calls_own (setting.plan.first + length old.front) 0 (events_of plays.made))
+        let is_calls = added_are setting.plan.first 0 old.front (events_of plays.made) plays.made
+        (ap (calls_from setting.plan.first 0) (sym alone) ∙ calls) in
+        subst (AllByRecursion (λ (r : Receipt). r.event.pass ≡ 0)) (sym is_calls)
+        (calls_own (setting.plan.first + length old.front) 0 (events_of plays.made))
 
     apart : AreApart (λ pass. numbers_in (only was pass))
     apart txn zero zero p q = refl
@@ -123,13 +143,16 @@ caller_round setting found old new was is zeroth sound all plays = record {
     apart txn (suc a) (suc b) p q = absurd (false≢true p)
 
     here : PlaysAll setting found old new (was ∷ []) (is ∷ [])
-    here = plays_more setting found old old new (was ∷ []) (was ∷ []) 0 was is (λ j k d in_j in_k same. omega arith) (plays_none setting found old (was ∷ []) sound) (omega arith) refl plays
+    here = plays_more setting found old old new (was ∷ []) (was ∷ []) 0 was is (λ j k d in_j in_k same. omega arith)
+        (plays_none setting found old (was ∷ []) sound) (omega arith) refl plays
 
     worked : (pass : ℕ) → pass < setting.plan.passes → Worked setting found old.front new.front pass (only was pass) (only is pass)
     worked zero inside =
         subst (λ (n : ℕ). Worked setting found old.front new.front n (was ∷ []) (is ∷ [])) zeroth
-        (worked_by setting found old.front new.front old new new (was ∷ []) (is ∷ []) here refl sound (front_itself new.front) refl plays.goes.number refl plays.goes.sound)
+        (worked_by setting found old.front new.front old new new (was ∷ []) (is ∷ []) here refl sound
+        (front_itself new.front) refl plays.goes.number refl plays.goes.sound)
     worked (suc p) inside = worked_none setting found old.front new.front (suc p)
         (ap (calls_from setting.plan.first (suc p)) alone ∙ calls-append setting.plan.first (suc p) old.front (events_of plays.made)
-        ∙ ap (λ rs. calls_from setting.plan.first (suc p) old.front ++ rs) (calls_none (setting.plan.first + length old.front) 0 (suc p) plays.made (omega arith) made_own)
+        ∙ ap (λ rs. calls_from setting.plan.first (suc p) old.front ++ rs)
+        (calls_none (setting.plan.first + length old.front) 0 (suc p) plays.made (omega arith) made_own)
         ∙ append-nil (calls_from setting.plan.first (suc p) old.front))

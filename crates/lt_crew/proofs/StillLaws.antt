@@ -26,15 +26,19 @@ some_line : (seat : Seat) (line : Line) (rest : List Line) → seat.turn.lines �
 some_line seat line rest is none = let no = ap length (sym is ∙ none) in omega (arith, no)
 
 -- one play more, at a line
-by_more : (lines plays : ℕ) (was is : Seat) (line : Line) (rest : List Line) → MayGo was → was.turn.lines ≡ line ∷ rest → (IsTrue (is_some was.turn.outcome) → was.turn.lines ≡ []) →
-    IsWithin lines plays was → (on : IsOn was is) → (IsStuck is ⊎ ((length is.turn.lines < length was.turn.lines) ⊎ (IsTrue (is_some was.turn.outcome) × (is.turn ≡ record was.turn { releases = [] })))) →
+by_more : (lines plays : ℕ) (was is : Seat) (line : Line) (rest : List Line) → MayGo was → was.turn.lines ≡ line ∷ rest →
+    (IsTrue (is_some was.turn.outcome) → was.turn.lines ≡ []) →
+    IsWithin lines plays was → (on : IsOn was is) →
+    (IsStuck is ⊎ ((length is.turn.lines < length was.turn.lines) ⊎
+    (IsTrue (is_some was.turn.outcome) × (is.turn ≡ record was.turn { releases = [] })))) →
     IsWithin lines (plays + 1) is
 by_more lines plays was is line rest goes next over (inl stuck) on by = absurd (not_stuck was goes stuck)
 by_more lines plays was is line rest goes next over (inr few) on (inl stuck) = inl stuck
 by_more lines plays was is line rest goes next over (inr few) on (inr (inl less)) = inr (omega (arith, few, less))
 by_more lines plays was is line rest goes next over (inr few) on (inr (inr ended)) = absurd (some_line was line rest next (over ended.0))
 
-pub within_more : (lines plays : ℕ) (was is : Seat) (line : Line) (rest : List Line) → MayGo was → was.turn.lines ≡ line ∷ rest → (IsTrue (is_some was.turn.outcome) → was.turn.lines ≡ []) →
+pub within_more : (lines plays : ℕ) (was is : Seat) (line : Line) (rest : List Line) → MayGo was → was.turn.lines ≡ line ∷ rest →
+    (IsTrue (is_some was.turn.outcome) → was.turn.lines ≡ []) →
     IsWithin lines plays was → IsOn was is → IsWithin lines (plays + 1) is
 within_more lines plays was is line rest goes next over within on = by_more lines plays was is line rest goes next over within on on.by
 

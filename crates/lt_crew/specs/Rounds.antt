@@ -1,5 +1,6 @@
 -- Runs of a crew: rounds of its workers, and turns of its caller, from the opening to the end.
-use Rattle.std.specs.Prelude.{◌≡◌, ◌≢◌, ℕ, ◌<◌, ◌≤◌, List, [], ◌∷◌, ◌++◌, map, length, slice_index_or, slice_set, true, Some, IfSome, IsTrue}
+use Rattle.std.specs.Prelude.{◌≡◌, ◌≢◌, ℕ, ◌<◌, ◌≤◌, List, [], ◌∷◌}
+use Rattle.std.specs.Prelude.{◌++◌, map, length, slice_index_or, slice_set, true, Some, IfSome, IsTrue}
 use Rattle.std.specs.List.{AllByRecursion, filter_map}
 use Rattle.lt_ranges.specs.Numbers.{is_in}
 use Rattle.lt_seq.specs.declared.event.Event.{Event}

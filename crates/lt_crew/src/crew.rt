@@ -148,7 +148,8 @@ fn any_short<P>(workers: &[Worker<P>]) -> bool
     false
 }
 
-/// The workers have each a right, play, and give the right back. Then each has seen what the caller has seen.
+/// The workers have each a right, play, and give the right back. Then each has seen what the caller has seen. The only
+/// error is want of memory.
 fn play_lent<R: Threads + Sync, Y: Yard, G: Gate>(
     rt: &R,
     yard: &Y,
@@ -177,7 +178,12 @@ fn play_lent<R: Threads + Sync, Y: Yard, G: Gate>(
     Ok(())
 }
 
-/// One round: each worker gets a right, the workers play side by side, and the rights come back.
+/// One round: each worker gets a right, the workers play side by side, and the rights come back. Then the caller has all
+/// the rights again, and each pass has seen the whole history.
+///
+/// Each transaction is played until it waits at a held line, a call is refused, or it has given back all. One that waits,
+/// or whose last call was refused, is left as it is. The only error is want of memory. Then the events that were made
+/// stand, rights may be left with the workers, and no transaction is played any more.
 pub fn round<R: Threads + Sync, Y: Yard, G: Gate>(
     rt: &R,
     yard: &Y,
@@ -196,8 +202,8 @@ pub fn round<R: Threads + Sync, Y: Yard, G: Gate>(
         (Y.Pass.view me.new).front) workers.new) }
     ensures out { OnOk result (EachPair AreOut workers.old workers.new) }
     ensures ordered { OnOk result (AreInOrder Y.Pass.view workers.new) }
-    ensures round { OnOk result (IsRound (Y.setting yard.now) [] (Y.Pass.view me.old).front (Y.Pass.view me.new).front (seats_by
-        workers.old) (seats_by workers.new)) }
+    ensures round { OnOk result (IsRound (Y.setting yard.now) [] (Y.Pass.view me.old).front (Y.Pass.view me.new).front
+        (seats_by workers.old) (seats_by workers.new)) }
 {
     lend(yard, me, workers);
     play_lent(rt, yard, me, workers, gate)

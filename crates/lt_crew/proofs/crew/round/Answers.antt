@@ -9,14 +9,18 @@ pub returns-clause-ordered : goal.returns-clause-ordered
 returns-clause-ordered g c =
     let view = g.Y.Pass.Pass.view in
     let setting = g.Y.Yard.setting c.args.yard.now in
-    on_ok c.play_lent.result (λ plays. ordered_still g.Y.Pass.Pass.origin view (origin_of (g.Y.Yard.identity c.args.yard.now) setting) (view c.args.me.now).front (view c.play_lent.new.me).front
+    on_ok c.play_lent.result
+    (λ plays. ordered_still g.Y.Pass.Pass.origin view (origin_of (g.Y.Yard.identity c.args.yard.now) setting) (view c.args.me.now).front
+    (view c.play_lent.new.me).front
     c.args.workers.now c.lend.new.workers c.play_lent.new.workers c.requires.resting c.lend.ensures.workers plays c.requires.ordered) c.play_lent.ensures.played
 
 pub returns-clause-out : goal.returns-clause-out
 returns-clause-out g c =
     let view = g.Y.Pass.Pass.view in
     let setting = g.Y.Yard.setting c.args.yard.now in
-    on_ok c.play_lent.result (λ plays. all_out g.Y.Pass.Pass.origin view (origin_of (g.Y.Yard.identity c.args.yard.now) setting) (view c.args.me.now).front (view c.play_lent.new.me).front
+    on_ok c.play_lent.result
+    (λ plays. all_out g.Y.Pass.Pass.origin view (origin_of (g.Y.Yard.identity c.args.yard.now) setting) (view c.args.me.now).front
+    (view c.play_lent.new.me).front
     c.args.workers.now c.lend.new.workers c.play_lent.new.workers c.requires.resting c.lend.ensures.workers plays c.requires.ordered) c.play_lent.ensures.played
 
 pub returns-clause-round : goal.returns-clause-round
@@ -24,7 +28,9 @@ returns-clause-round g c =
     let view = g.Y.Pass.Pass.view in
     let setting = g.Y.Yard.setting c.args.yard.now in
     let lent = c.lend.ensures.me in
-    on_both c.play_lent.result (λ taken plays. round_is g.Y.Pass.Pass.origin view (origin_of (g.Y.Yard.identity c.args.yard.now) setting) (view c.args.me.now).front (view c.play_lent.new.me).front
+    on_both c.play_lent.result
+    (λ taken plays. round_is g.Y.Pass.Pass.origin view (origin_of (g.Y.Yard.identity c.args.yard.now) setting) (view c.args.me.now).front
+    (view c.play_lent.new.me).front
     c.args.workers.now c.lend.new.workers c.play_lent.new.workers c.requires.resting c.lend.ensures.workers plays c.requires.ordered
     (view c.args.me.now) (view c.play_lent.new.me)
     (ap (λ (p : PassView). p.mine) taken.same ∙ ap (λ (p : PassView). p.mine) lent)

@@ -24,7 +24,9 @@ loop-line-preserved g c =
       fit = search rules;
       plays = plays_then setting [] _ _ _ _ _ _ c.loop-line.invariant.plays c.in_ok-play_once.ensures.plays;
       lines = omega (arith, c.loop-line.invariant.lines, c.in_ok-play_once.ensures.on.lines);
-      stuck = not_stuck_first c.args.turn.now c.loop-line.turn c.play_once.new.turn (c.may_go.ensures.goes (search rules)) c.loop-line.invariant.stuck;
-      within = within_more (length c.args.turn.now.turn.lines) c.loop-line._line c.loop-line.turn c.play_once.new.turn next.0 next.1 (c.may_go.ensures.goes (search rules)) next.2 c.loop-line.invariant.fit.over
+      stuck = not_stuck_first c.args.turn.now c.loop-line.turn c.play_once.new.turn
+          (c.may_go.ensures.goes (search rules)) c.loop-line.invariant.stuck;
+      within = within_more (length c.args.turn.now.turn.lines) c.loop-line._line c.loop-line.turn c.play_once.new.turn next.0 next.1
+          (c.may_go.ensures.goes (search rules)) next.2 c.loop-line.invariant.fit.over
           c.loop-line.invariant.within c.in_ok-play_once.ensures.on;
     }

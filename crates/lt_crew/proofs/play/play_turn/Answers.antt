@@ -6,5 +6,6 @@ use Rattle.lt_crew.proofs.play.play_turn.Goals as goal
 pub returns-then-may_go-clause-plays : goal.returns-then-may_go-clause-plays
 returns-then-may_go-clause-plays g c =
     let view = g.Y.Pass.Pass.view in
-    on_ok c.play_once.result (λ later. plays_then (g.Y.Yard.setting c.args.yard.now) [] (view c.args.pass.now) (view c.play_lines.new.pass) (view c.play_once.new.pass)
+    on_ok c.play_once.result
+    (λ later. plays_then (g.Y.Yard.setting c.args.yard.now) [] (view c.args.pass.now) (view c.play_lines.new.pass) (view c.play_once.new.pass)
     c.args.turn.now c.play_lines.new.turn c.play_once.new.turn c.in_ok-play_lines.ensures.plays later) c.play_once.ensures.plays

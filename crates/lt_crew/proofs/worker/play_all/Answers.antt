@@ -25,9 +25,11 @@ loop-turn-preserved g c =
       of = search rules;
       ready = ready_still setting [] _ _ _ _ c.loop-turn.invariant.ready c.in_ok-play_turn.ensures.plays;
       fit = All-set (IsFit setting) c.loop-turn.turns c.loop-turn.turn-index c.play_turn.new.turn c.in_ok-play_turn.ensures.fit c.loop-turn.invariant.fit;
-      plays = plays_more setting [] (view c.args.pass.now) (view c.loop-turn.pass) (view c.play_turn.new.pass) c.args.turns.now c.loop-turn.turns c.loop-turn.turn-index c.turn-item.result c.play_turn.new.turn
+      plays = plays_more setting [] (view c.args.pass.now) (view c.loop-turn.pass)
+          (view c.play_turn.new.pass) c.args.turns.now c.loop-turn.turns c.loop-turn.turn-index c.turn-item.result c.play_turn.new.turn
           c.requires.distinct c.loop-turn.invariant.plays (omega (arith, c.loop-turn-test.true, c.loop-turn.invariant.plays.count)) c.turn-item.is
-          (subst (λ (s : Seat). PlaysOn setting [] (view c.loop-turn.pass) (view c.play_turn.new.pass) s c.play_turn.new.turn) (sym c.turn-item.is) c.in_ok-play_turn.ensures.plays);
+          (subst (λ (s : Seat). PlaysOn setting [] (view c.loop-turn.pass) (view c.play_turn.new.pass) s c.play_turn.new.turn)
+          (sym c.turn-item.is) c.in_ok-play_turn.ensures.plays);
       out = up_to_more IsPlayedOut c.loop-turn.turn-index c.args.turns.now c.loop-turn.turns c.turn-item.result c.play_turn.new.turn c.loop-turn.invariant.out
           (omega (arith, c.loop-turn-test.true, c.loop-turn.invariant.plays.count)) c.turn-item.is
           c.in_ok-play_turn.ensures.out;
