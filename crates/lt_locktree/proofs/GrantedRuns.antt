@@ -61,7 +61,7 @@ some_middle : (xs : List PartRow) (y : PartRow) (zs : List PartRow) → 0 < leng
 some_middle [] y zs = omega arith
 some_middle (x ∷ xs) y zs = omega arith
 
-length-numbers : (xs : List PartRow) → length (numbers xs) ≡ length xs
+pub length-numbers : (xs : List PartRow) → length (numbers xs) ≡ length xs
 length-numbers [] = refl
 length-numbers (x ∷ xs) = ap (λ (n : ℕ). suc n) (length-numbers xs)
 
@@ -101,7 +101,7 @@ lawful_middle xs ys zs h =
     (lawful_right (map row_pair xs) (map row_pair (ys ++ zs)) (subst IsLawful (map_app row_pair xs (ys ++ zs)) h)))
 
 -- a change that makes up for the rows that are given
-counted : (change : ℤ) (n a b k : ℕ) → change +ℤ pos n ≡ pos 0 → a ≡ b + n → change +ℤ pos (a + k) ≡ pos (b + k)
+pub counted : (change : ℤ) (n a b k : ℕ) → change +ℤ pos n ≡ pos 0 → a ≡ b + n → change +ℤ pos (a + k) ≡ pos (b + k)
 counted change n a b k gone e =
     let split : a + k ≡ n + (b + k) = omega arith in
     ap (λ (m : ℕ). change +ℤ pos m) split

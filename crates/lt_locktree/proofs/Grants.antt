@@ -49,17 +49,17 @@ after_by txn asked s ps b =
 abbrev pub reply_of : ℕ → Interval → List Pair → Bool → Reply
 reply_of txn asked ps b = if b then Buffered else reply_by (others txn asked ps)
 
-around_times : (p : Place) (h : ℕ) (n : Node) (sub : Cut) (q : ℕ) → times q (in_order (bare (around p h n sub))) ≤ times q (h ∷ in_order (bare sub))
+pub around_times : (p : Place) (h : ℕ) (n : Node) (sub : Cut) (q : ℕ) → times q (in_order (bare (around p h n sub))) ≤ times q (h ∷ in_order (bare sub))
 around_times below_top h n sub q = omega arith
 around_times on_left h n sub q = let s = times-++ q (in_order (bare sub)) (h ∷ []) in omega arith
 around_times on_right h n sub q = omega arith
 
-length_around : (p : Place) (h : ℕ) (n m : Node) (sub new : Cut) → (k : ℕ) × (length (in_order (bare (around p h n sub))) ≡ length (in_order (bare sub)) + k) × (length (in_order (bare (around p h m new))) ≡ length (in_order (bare new)) + k)
+pub length_around : (p : Place) (h : ℕ) (n m : Node) (sub new : Cut) → (k : ℕ) × (length (in_order (bare (around p h n sub))) ≡ length (in_order (bare sub)) + k) × (length (in_order (bare (around p h m new))) ≡ length (in_order (bare new)) + k)
 length_around below_top h n m sub new = (0, omega arith, omega arith)
 length_around on_left h n m sub new = (1, length-append (in_order (bare sub)) (h ∷ []), length-append (in_order (bare new)) (h ∷ []))
 length_around on_right h n m sub new = (1, omega arith, omega arith)
 
-none_of : (xs : List ℕ) (q : ℕ) → (0 < times q xs → ⊥) → times q xs ≡ 0
+pub none_of : (xs : List ℕ) (q : ℕ) → (0 < times q xs → ⊥) → times q xs ≡ 0
 none_of xs q f = dite (ℕ_discrete (times q xs) 0) (λ e. e) (λ ne. absurd (f (omega arith)))
 
 module _ (v : View) (tree : ℕ) (asked : Interval) (here : ℕ) (rows : List PartRow) (hangs more : List ℕ)

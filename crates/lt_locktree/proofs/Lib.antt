@@ -13,3 +13,5 @@ pub mod LaidParts
 pub mod PlanLaws
 pub mod MergedPlans
 pub mod RowsInPlace
+pub mod Relays
+pub mod FreedParts

@@ -3,6 +3,8 @@ pub mod PlannedParts
 pub mod Given
 pub mod Makes
 pub mod Relaid
+pub mod RelaidRows
 pub mod LawsOfDeeds
 pub mod LawsOfGrants
 pub mod LawsOfPlans
+pub mod LawsOfFrees

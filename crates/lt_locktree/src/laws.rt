@@ -1,5 +1,6 @@
 //! Laws of what is asked of a tree. Each function's contract is a law over the definitions; the bodies are empty.
 ghost use Rattle.lt_locktree.specs.LawsOfDeeds.{WhoCommits, HeldAskCommits};
+ghost use Rattle.lt_locktree.specs.LawsOfFrees.{FreeCommits, NoneFreedCommits};
 ghost use Rattle.lt_locktree.specs.LawsOfGrants.{MergedAskCommits, PutInAskCommits};
 ghost use Rattle.lt_locktree.specs.LawsOfPlans.{GrownPlanCommits, MergedPlanCommits, PutInPlanCommits};
 
@@ -22,4 +23,10 @@ pub fn plans_of_granted_asks()
     ensures grown { GrownPlanCommits }
     ensures merged { MergedPlanCommits }
     ensures put_in { PutInPlanCommits }
+{}
+
+/// A free is a commit of a plan that leaves the transaction's rows that overlap out of the part, and gives them to the pool.
+pub fn frees_are_made()
+    ensures freed { FreeCommits }
+    ensures none { NoneFreedCommits }
 {}
