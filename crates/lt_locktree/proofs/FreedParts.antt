@@ -25,10 +25,12 @@ use Rattle.lt_forest.specs.Views.{PlansOnly, no_pool}
 use Rattle.lt_forest.proofs.PublicPartLaws.{left_out_loosens, left_out_is_freed, left_out_keeps_rows, side_shows_free}
 use Rattle.lt_forest.proofs.WidenLaws.{length-hangs_of}
 use Rattle.lt_rows.specs.declared.view.View.{View}
+use Rattle.lt_rows.specs.declared.image.RowImage.{RowImage}
 use Rattle.lt_rows.specs.Views.{planned_rows}
 use Rattle.lt_rows.specs.Lawful.{shown, shown_after, mode_before, mode_after, KnowsTop}
-use Rattle.lt_tree.specs.Gathers.{Place, below_top, on_left, on_right, TopIs}
+use Rattle.lt_tree.specs.Gathers.{Place, below_top, on_left, on_right, TopIs, IsLockedWith}
 use Rattle.lt_locktree.specs.LawsOfFrees.{goes, freed_rows, KeepsScore, RaisesAnchor, AreNumbersOf, FreeCommits, NoneFreedCommits}
+use Rattle.lt_locktree.specs.Relaid.{StaysBeside}
 use Rattle.lt_locktree.specs.RelaidRows.{RowStays}
 use Rattle.lt_locktree.proofs.HeldParts.{sub_pairs}
 use Rattle.lt_locktree.proofs.GrantedRuns.{sub_lawful, sub_held, numbers_are, length-numbers, counted}
@@ -164,10 +166,30 @@ same_place v here below_top = tt
 same_place v here on_left = (refl, refl)
 same_place v here on_right = (refl, refl)
 
-keeps_score : (p : Place) (first : Bool) (score : ℕ) → (first ≡ false) ⊎ (score ≡ 100) → KeepsScore p first score
+pub keeps_score : (p : Place) (first : Bool) (score : ℕ) → (first ≡ false) ⊎ (score ≡ 100) → KeepsScore p first score
 keeps_score below_top first score h = tt
 keeps_score on_left first score h = h
 keeps_score on_right first score h = h
+
+same_mode : (v : View) (here : ℕ) (p : Place) → StaysBeside v [] here p
+same_mode v here below_top = refl
+same_mode v here on_left = (refl, refl)
+same_mode v here on_right = (refl, refl)
+
+-- where the anchor shows the same mode and no score rises, it has the score that a free leaves
+pub anchor_keeps : (v : View) (tree : ℕ) (asked : Interval) (here : ℕ) (rows : List PartRow) (hangs more : List ℕ)
+    (l : IsLockedWith v tree asked here rows hangs more) (first : Bool) (plan : List RowImage) → (first ≡ false) ⊎ (l.score ≡ 100)
+    → StaysBeside v plan here l.place → RaisesAnchor v plan tree first l.place
+anchor_keeps v tree asked here rows hangs more l first plan keeps stays = by l.place refl stays
+  where
+    by : (p : Place) → l.place ≡ p → StaysBeside v plan here p → RaisesAnchor v plan tree first p
+    by below_top at b =
+        let top = subst (λ (p : Place). TopIs p tree here l.top) at l.top_is in
+        let was : mode_before v plan tree ≡ TreeMode l.score = subst (λ (t : Top). KnowsTop v tree t l.score) top.1 l.knows in
+        subst (λ (n : ℕ). mode_after v plan n ≡ mode_before v plan n) top.0 b
+        ∙ (was ∙ (sym (stays_by first l.score l.score keeps (λ s. s)) ∙ ap (raised first) (sym was)))
+    by on_left at b = tt
+    by on_right at b = tt
 
 pub none_freed_commits : NoneFreedCommits
 none_freed_commits v tree asked here rows hangs more first e l closed lt interval keeps none pass is =
@@ -187,15 +209,7 @@ none_freed_commits v tree asked here rows hangs more first e l closed lt interva
       new_items = sym (sift_stays (λ r. not (goes e.txn asked r)) rows hangs stay);
     })
     (record { new = l.sub; shows = l.shows; rows_are = l.rows_are; hangs_are = l.hangs_are; beside = same_place v here l.place })
-    (anchor_stays l.place refl)
+    (anchor_keeps v tree asked here rows hangs more l first [] keeps (same_mode v here l.place))
     (record { each = λ q. ap (λ (rs : List PartRow). times q (numbers rs)) (sym none); all = ap (λ (rs : List PartRow). length rs) (sym none) })
     (no_pool refl refl refl) (λ q z. refl) pass
     (is ∙ ap (λ (n : ℕ). Free tree asked first n) (sym count)) (ap (λ (n : ℕ). pos 0 +ℤ pos n) count)
-  where
-    anchor_stays : (p : Place) → l.place ≡ p → RaisesAnchor v [] tree first p
-    anchor_stays below_top at =
-        let was : mode_before v [] tree ≡ TreeMode l.score =
-        subst (λ (t : Top). KnowsTop v tree t l.score) (subst (λ (p : Place). TopIs p tree here l.top) at l.top_is).1 l.knows in
-        was ∙ (sym (stays_by first l.score l.score keeps (λ s. s)) ∙ ap (raised first) (sym was))
-    anchor_stays on_left at = tt
-    anchor_stays on_right at = tt

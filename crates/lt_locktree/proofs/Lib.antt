@@ -15,3 +15,4 @@ pub mod MergedPlans
 pub mod RowsInPlace
 pub mod Relays
 pub mod FreedParts
+pub mod FreePlans

@@ -31,7 +31,7 @@ use Rattle.lt_locktree.proofs.LaidParts.{loaded_at, plan_times, planned_image, o
 use Rattle.lt_locktree.proofs.PlanLaws.{all_once}
 
 -- images that are chained have the rows, and where they count the links lead along these
-chained_times : (images : List RowImage) (link : ℕ) (rows : List PartRow) (last q : ℕ) → IsChained images link rows last
+pub chained_times : (images : List RowImage) (link : ℕ) (rows : List PartRow) (last q : ℕ) → IsChained images link rows last
     → times q (planned_rows images) ≡ times q (numbers rows)
 chained_times images link [] last q is = ap (λ (xs : List RowImage). times q (planned_rows xs)) is.0
 chained_times images link (r ∷ rows) last q (front, image, images_are, row_is, link_is, rest) =
@@ -41,7 +41,7 @@ chained_times images link (r ∷ rows) last q (front, image, images_are, row_is,
     let d : times q (image.row ∷ []) ≡ times q (r.row ∷ []) = ap (λ (n : ℕ). times q (n ∷ [])) row_is in
     omega arith
 
-chained_run : (d : Nodes) (images : List RowImage) (link : ℕ) (rows : List PartRow) (last : ℕ)
+pub chained_run : (d : Nodes) (images : List RowImage) (link : ℕ) (rows : List PartRow) (last : ℕ)
     → ((p : RowImage) → InPlan p images → d p.row ≡ node_of p.words) → IsChained images link rows last
     → IsRun d link (numbers rows) last
 chained_run d images link [] last holds is = is.1
@@ -64,7 +64,7 @@ numbers_merged [] a b run ys q e =
     omega arith
 numbers_merged (x ∷ xs) a b run ys q e = let t = numbers_merged xs a b run ys q e in omega arith
 
-one_of : (more : List ℕ) (a q : ℕ) → 0 < times a more → times q (a ∷ []) ≤ times q more
+pub one_of : (more : List ℕ) (a q : ℕ) → 0 < times a more → times q (a ∷ []) ≤ times q more
 one_of more a q h = dite (ℕ_discrete a q)
     (λ e. let h' : 0 < times q more = subst (λ (n : ℕ). 0 < times n more) e h in
     let x : one_if (nat_eq a q) ≡ 1 = ap one_if (eq-eqb a q e) in omega arith)

@@ -49,7 +49,7 @@ numbers_more (x ∷ xs) a ys q = let e = numbers_more xs a ys q in omega arith
 module _ (v : View) (tree : ℕ) (asked : Interval) (here : ℕ) (rows : List PartRow) (hangs more : List ℕ)
     (l : IsLockedWith v tree asked here rows hangs more) (closed : IsClosed asked rows hangs) (lt : tree < v.plan.trees) where
   -- no row of the part, nor the row that stays, is the pool's anchor
-  here_apart : times v.plan.trees (here ∷ []) ≡ 0
+  pub here_apart : times v.plan.trees (here ∷ []) ≡ 0
   here_apart = by l.place l.top_is refl
     where
       far : (p : Place) → l.place ≡ p → 0 < times here (in_order (bare (around p here (shown v [] here) l.sub))) → v.plan.trees < here
@@ -69,7 +69,7 @@ module _ (v : View) (tree : ℕ) (asked : Interval) (here : ℕ) (rows : List Pa
           apart (λ x. (let f = far on_left e (let s = times-++ here (in_order (bare l.sub)) (here ∷ []) in let o = one in omega arith) in omega arith))
       by on_right is e = apart (λ x. (let f = far on_right e (let o = one in omega arith) in omega arith))
 
-  rows_apart : times v.plan.trees (numbers rows) ≡ 0
+  pub rows_apart : times v.plan.trees (numbers rows) ≡ 0
   rows_apart =
       none_of (numbers rows) v.plan.trees
       (λ some. (let f = (row_further v tree asked here rows hangs more l lt v.plan.trees

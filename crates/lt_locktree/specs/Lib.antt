@@ -8,3 +8,4 @@ pub mod LawsOfDeeds
 pub mod LawsOfGrants
 pub mod LawsOfPlans
 pub mod LawsOfFrees
+pub mod LawsOfFreePlans

@@ -1,6 +1,7 @@
 //! Laws of what is asked of a tree. Each function's contract is a law over the definitions; the bodies are empty.
 ghost use Rattle.lt_locktree.specs.LawsOfDeeds.{WhoCommits, HeldAskCommits};
 ghost use Rattle.lt_locktree.specs.LawsOfFrees.{FreeCommits, NoneFreedCommits};
+ghost use Rattle.lt_locktree.specs.LawsOfFreePlans.{FreePlanCommits};
 ghost use Rattle.lt_locktree.specs.LawsOfGrants.{MergedAskCommits, PutInAskCommits};
 ghost use Rattle.lt_locktree.specs.LawsOfPlans.{GrownPlanCommits, MergedPlanCommits, PutInPlanCommits};
 
@@ -29,4 +30,9 @@ pub fn plans_of_granted_asks()
 pub fn frees_are_made()
     ensures freed { FreeCommits }
     ensures none { NoneFreedCommits }
+{}
+
+/// The plan of a free, as it is made.
+pub fn plans_of_frees()
+    ensures { FreePlanCommits }
 {}
