@@ -28,7 +28,7 @@ use Rattle.lt_runner.specs.declared.release.Release.{Release}
 use Rattle.lt_runner.specs.TurnView.{Turn, Recorded, Seat}
 use Rattle.lt_runner.specs.Turn.{Move, leaves, asks, waits, stops, escalates, grows, ends, frees, receipts_in, turn_after, reply_in, asked_at, ended_at, answered_by, locked_by, walked, rest_of, rest_of_release, nothing_recorded}
 use Rattle.lt_runner.specs.Attempt.{AreOfTrees, IsAttempt}
-use Rattle.lt_runner.specs.Plays.{Stage, stage_after, stage_after_all, opening_stage, opening_turn, MayDo, MayFree, IsMove, ArePlayed, has_last, with_end, own_of, lines_for, end_of, line_question, is_lock, is_ask, is_big}
+use Rattle.lt_runner.specs.Plays.{Stage, stage_after, stage_after_all, opening_stage, opening_turn, MayDo, MayFree, IsMove, ArePlayed, has_last, with_end, own_of, lines_for, end_of, line_question, next_wish, is_lock, is_ask, is_big}
 use Rattle.lt_runner.specs.Played.{Search, Stands, IsAtLock}
 use Rattle.lt_runner.specs.Steps.{IsSteady, IsFitDeed, IsFitLine, IsFitRelease, AreRanges}
 use Rattle.lt_runner.specs.Due.{ranges_in, due_in, OverlapsOne, AreDue, IsDueReply, IsDueDeed}
@@ -39,6 +39,7 @@ use Rattle.lt_runner.proofs.GrowLaws.{PairsAt}
 use Rattle.lt_runner.proofs.DueLaws.{due_more, due_events, legal_next}
 use Rattle.lt_runner.proofs.DueTurnLaws.{IsLineMove, GivesMore, more_after, due_answered, due_locked, overlaps_whole}
 use Rattle.lt_runner.proofs.DueGameLaws.{after_free_due, not_overlapping}
+use Rattle.lt_runner.proofs.StuckLaws.{lock_wish}
 
 -- Its turn.
 
@@ -246,3 +247,29 @@ seats_stand setting searches lines history seat fit come =
       steady = subst (IsSteady setting) come.here (steady_moves true setting history opening come.moves come.played (steady_opening setting seat.turn.txn lines fit));
       last = subst HasEnd come.here (end_moves true setting history opening come.moves come.played (λ goes. last_opening seat.turn.txn lines));
     }
+
+goes_where_waits : (setting : Setting) (turn : Turn) → IsSteady setting turn → turn.waits ≡ true → is_some turn.outcome ≡ false
+goes_where_waits setting turn steady held = by_outcome (is_some turn.outcome) refl
+  where
+    by_outcome : (b : Bool) → is_some turn.outcome ≡ b → is_some turn.outcome ≡ false
+    by_outcome true e = absurd (let k : true ≡ false = sym held ∙ steady.still e in cc)
+    by_outcome false e = e
+
+lock_not_last : (deed : LineDeed) → IsTrue (is_lock deed) → is_last deed ≡ false
+lock_not_last (Try tree range) e = absurd (let k : false ≡ true = e in cc)
+lock_not_last (Lock tree range) e = refl
+lock_not_last End e = absurd (let k : false ≡ true = e in cc)
+lock_not_last Abort e = absurd (let k : false ≡ true = e in cc)
+lock_not_last (Escalate tree) e = absurd (let k : false ≡ true = e in cc)
+lock_not_last Big e = absurd (let k : false ≡ true = e in cc)
+
+two_lines : (lines : List Line) → IsAtLock lines → has_last lines ≡ true → 2 ≤ length lines
+two_lines [] lock has = absurd lock
+two_lines (line ∷ []) lock has = absurd (let k : has_last [] ≡ true = rest_last line [] (lock_not_last line.deed lock) has in let x : false ≡ true = k in cc)
+two_lines (line ∷ l ∷ ls) lock has = omega arith
+
+pub waiters_have_lines : (setting : Setting) (turn : Turn) → IsStanding setting turn → turn.waits ≡ true →
+    IsAtLock turn.lines × (2 ≤ length turn.lines) × ((wish : Wish) × (next_wish turn.txn turn.lines ≡ Some wish))
+waiters_have_lines setting turn stands held =
+    let lock = stands.steady.held held in
+    (lock, two_lines turn.lines lock (stands.last (goes_where_waits setting turn stands.steady held)), lock_wish turn.txn turn.lines lock)

@@ -1,5 +1,5 @@
 -- What is known of a transaction of a crew that stands half played: what its turn is, and what it holds.
-use Rattle.std.specs.Prelude.{◌≡◌, ◌⊎◌, ℕ, List, map, is_some, true, false}
+use Rattle.std.specs.Prelude.{◌≡◌, ◌⊎◌, ℕ, ◌≤◌, List, map, length, is_some, true, false, Some}
 use Rattle.std.specs.List.{AllByRecursion}
 use Rattle.std.specs.List.Sorted.{IsStrictlySortedBy}
 use Rattle.std.specs.Ordering.{nat_cmp}
@@ -8,9 +8,10 @@ use Rattle.lt_seq.specs.Table.{Setting, tree_at}
 use Rattle.lt_seq.specs.History.{after, IsLegal}
 use Rattle.lt_trace.specs.declared.line.Line.{Line}
 use Rattle.lt_trace.specs.Grammar.{txns_of}
+use Rattle.lt_requests.specs.declared.wish.Wish.{Wish}
 use Rattle.lt_runner.specs.TurnView.{Turn, Seat}
-use Rattle.lt_runner.specs.Plays.{has_last}
-use Rattle.lt_runner.specs.Played.{Search, Stands, IsOver, AllStand}
+use Rattle.lt_runner.specs.Plays.{has_last, next_wish}
+use Rattle.lt_runner.specs.Played.{Search, IsAtLock, Stands, IsOver, AllStand}
 use Rattle.lt_runner.specs.Due.{OverlapsOne, due_in}
 use Rattle.lt_runner.specs.Steps.{IsSteady, IsFitDeed, IsInOrder}
 use Rattle.lt_runner.specs.Serial.{game_at}
@@ -30,6 +31,12 @@ abbrev pub SeatsStand : Type 0
 SeatsStand =
     (setting : Setting) (searches : List Search) (lines : List Line) (history : List Event) (seat : Seat)
     → AreFitDeeds setting lines → Stands true setting searches lines history seat → IsStanding setting seat.turn
+
+-- One that waits does so at a lock line, for which it has a wish, and the line that ends it is left besides.
+abbrev pub WaitersHaveLines : Type 0
+WaitersHaveLines =
+    (setting : Setting) (turn : Turn) → IsStanding setting turn → turn.waits ≡ true
+    → IsAtLock turn.lines × (2 ≤ length turn.lines) × ((wish : Wish) × (next_wish turn.txn turn.lines ≡ Some wish))
 
 -- each pair of the transaction in the tree overlaps a range that it is to give back
 abbrev pub OwnsDue : Setting → List Event → Turn → ℕ → Type 0

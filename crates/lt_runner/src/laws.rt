@@ -1,6 +1,6 @@
 //! Laws of runs.
 ghost use Rattle.lt_runner.specs.Nothing.{ReleasesLeaveNothing, RunsLeaveNothing};
-ghost use Rattle.lt_runner.specs.Standing.{SeatsStand, SeatsOwnDue, WaitingOwnAll};
+ghost use Rattle.lt_runner.specs.Standing.{SeatsStand, WaitersHaveLines, SeatsOwnDue, WaitingOwnAll};
 ghost use Rattle.lt_runner.specs.StartsAlone.{StartsAreMoves};
 ghost use Rattle.std.specs.Prelude.{ℕ, false};
 ghost use Rattle.lt_trace.specs.Grammar.{IsTrace};
@@ -116,8 +116,11 @@ pub fn retries_settle_one()
 {}
 
 /// A transaction of a crew that stands half played has a steady turn, and until it has ended the line that ends it is left.
+///
+/// One that waits does so at a lock line, for which it has a wish.
 pub fn seats_stand()
-    ensures { SeatsStand }
+    ensures stand { SeatsStand }
+    ensures wait { WaitersHaveLines }
 {}
 
 /// Each pair of such a transaction overlaps a range that it is to give back, whatever others did between.
