@@ -1,6 +1,6 @@
 -- What a crew's run may cost in all.
-use Rattle.std.proofs.Common.{◌≡◌, ℕ, zero, suc, ◌+◌, ◌-◌, ◌*◌, ◌<◌, ◌≤◌, List, [], ◌∷◌, ◌++◌, map, filter, Bool, true, false, ◌==◌, if◌then◌else◌, length, get_or, slice_set, replicate, nat_cmp}
-use Rattle.std.proofs.Common.{refl, sym, ap, subst, ◌∙◌, arith, length-append, eq-eqb}
+use Rattle.std.proofs.Common.{◌≡◌, ℕ, zero, suc, ◌+◌, ◌*◌, ◌<◌, ◌≤◌, List, [], ◌∷◌, ◌++◌, map, Bool, true, false, ◌==◌, if◌then◌else◌, length, get_or, slice_set, replicate, nat_cmp}
+use Rattle.std.proofs.Common.{refl, sym, ap, subst, ◌∙◌, arith, length-append}
 use Rattle.std.specs.List.{AllByRecursion}
 use Rattle.std.specs.List.Sorted.{IsStrictlySortedBy}
 use Rattle.std.specs.declared.cmp.Ordering.TheVariants.{Less}
@@ -18,7 +18,6 @@ use Rattle.lt_runner.specs.Seats.{opening_seat}
 use Rattle.lt_runner.specs.Serial.{setting_of, most_of, most_events}
 use Rattle.lt_runner.specs.Work.{lines_work, owed, work, steps}
 use Rattle.lt_runner.specs.CrewCost.{sum_of, pass_cost, seats_of}
-use Rattle.lt_runner.proofs.ChoiceLaws.{on_true, on_false}
 use Rattle.lt_runner.proofs.OrderLaws.{ascending_sorted}
 use Rattle.lt_runner.proofs.CostLaws.{times_more}
 

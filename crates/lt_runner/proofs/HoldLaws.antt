@@ -1,9 +1,9 @@
 -- Each pair of a transaction overlaps a range that it is to give back, whatever others do between its moves.
-use Rattle.std.proofs.Common.{◌≡◌, ◌≢◌, ◌⊎◌, ℕ, zero, suc, ◌+◌, ◌<◌, ◌≤◌, List, [], ◌∷◌, ◌++◌, Bool, true, false, ◌==◌, ◌&&◌, ◌||◌, map, nat_cmp, not, inl, inr, if◌then◌else◌, IsTrue, Option, Some, None, is_some}
-use Rattle.std.proofs.Common.{length, get_or, replicate, refl, sym, ap, subst, ◌∙◌, arith, eq-eqb, append_assoc, append-nil, length-append, get_or-set_same, get_or-set_other}
+use Rattle.std.proofs.Common.{◌≡◌, ◌≢◌, ◌⊎◌, ℕ, zero, suc, ◌+◌, ◌<◌, ◌≤◌, List, [], ◌∷◌, ◌++◌, Bool, true, false, ◌==◌, ◌||◌, map, nat_cmp, not, inl, inr, if◌then◌else◌, IsTrue, Option, Some, None, is_some}
+use Rattle.std.proofs.Common.{length, get_or, replicate, refl, sym, ap, subst, ◌∙◌, arith, eq-eqb, append_assoc, append-nil, get_or-set_same, get_or-set_other}
 use Rattle.std.specs.List.{AllByRecursion, flat_map}
 use Rattle.std.proofs.lemmas.Bool.Decides.{nat_tests}
-use Rattle.lt_ranges.specs.Interval.{Interval, IsInterval, overlap, whole}
+use Rattle.lt_ranges.specs.Interval.{Interval, overlap, whole}
 use Rattle.lt_seq.specs.declared.event.Deed.{Deed}
 use Rattle.lt_seq.specs.declared.event.Deed.TheVariants.{Ask, Free, Who, Join}
 use Rattle.lt_seq.specs.declared.event.Reply.{Reply}
@@ -12,7 +12,6 @@ use Rattle.lt_seq.specs.declared.event.Event.{Event}
 use Rattle.lt_seq.specs.declared.event.Pair.{Pair}
 use Rattle.lt_seq.specs.declared.event.Receipt.{Receipt}
 use Rattle.lt_seq.specs.Table.{Setting, TreeState, fresh, tree_at, tree_of, after_free, step, opening}
-use Rattle.lt_seq.specs.Pairs.{is_own}
 use Rattle.lt_seq.specs.History.{after, IsLegal, IsLegalFrom, IsNext}
 use Rattle.lt_seq.specs.Questions.{question, receipts_of, named_in}
 use Rattle.lt_seq.proofs.HistoryLaws.{after_more}
@@ -33,7 +32,7 @@ use Rattle.lt_runner.specs.Turn.{Move, leaves, asks, waits, stops, escalates, gr
 use Rattle.lt_runner.specs.Attempt.{AreOfTrees, AreJoins, IsAttempt}
 use Rattle.lt_runner.specs.Plays.{Stage, stage_after, stage_after_all, opening_stage, MayDo, MayFree, IsMove, ArePlayed, lines_for, line_question, is_ask}
 use Rattle.lt_runner.specs.Played.{Search, Stands, IsOver, AllStand}
-use Rattle.lt_runner.specs.Steps.{IsSteady, IsFitDeed, IsFitLine, IsFitRelease, IsInOrder}
+use Rattle.lt_runner.specs.Steps.{IsSteady, IsFitDeed, IsFitLine, IsInOrder}
 use Rattle.lt_runner.specs.Serial.{game_at, turn_of, is_waiting}
 use Rattle.lt_runner.specs.Settles.{OwnersWait}
 use Rattle.lt_runner.specs.Board.{turns_of}

@@ -1,7 +1,7 @@
 -- Retries that are held again are the plain scheduler's, so a pass of them settles one.
-use Rattle.std.proofs.Common.{◌≡◌, ◌⊎◌, inl, inr, ℕ, ◌+◌, ◌<◌, ◌≤◌, List, [], ◌∷◌, ◌++◌, map, Bool, true, false, ◌==◌, ◌&&◌, not, if◌then◌else◌, Option, Some, None, is_some, is_none, Ok}
+use Rattle.std.proofs.Common.{◌≡◌, ◌⊎◌, inl, inr, ℕ, ◌<◌, List, [], ◌∷◌, ◌++◌, map, Bool, true, false, ◌==◌, ◌&&◌, not, if◌then◌else◌, Some, None, is_some, is_none, Ok}
 use Rattle.std.proofs.Common.{length, nat_cmp, refl, sym, ap, subst, ◌∙◌, arith}
-use Rattle.std.specs.List.{AllByRecursion, cons_option, fold}
+use Rattle.std.specs.List.{AllByRecursion, cons_option}
 use Rattle.std.proofs.lemmas.List.Sums.{fold-append}
 use Rattle.lt_seq.proofs.NumbersLaws.{increasing_from}
 use Rattle.std.specs.List.Sorted.{IsStrictlySortedBy}
@@ -10,21 +10,19 @@ use Rattle.lt_ranges.specs.Numbers.{is_in}
 use Rattle.lt_seq.specs.declared.event.Event.{Event}
 use Rattle.lt_seq.specs.Table.{Setting}
 use Rattle.lt_seq.specs.History.{IsLegal}
-use Rattle.lt_seq.specs.Questions.{events_of}
 use Rattle.lt_seq.specs.Yard.{PassView}
 use Rattle.lt_trace.specs.declared.line.Line.{Line}
-use Rattle.lt_trace.specs.declared.line.LineDeed.{LineDeed}
 use Rattle.lt_requests.specs.declared.wish.Wish.{Wish}
 use Rattle.lt_requests.specs.declared.started.Started.TheVariants.{Waits}
 use Rattle.lt_requests.specs.Registered.{Ascend}
 use Rattle.lt_requests.specs.Started.{IsStarted}
 use Rattle.lt_runner.specs.TurnView.{Turn, Seat}
-use Rattle.lt_runner.specs.Turn.{Move, receipts_in, turn_after}
+use Rattle.lt_runner.specs.Turn.{Move, turn_after}
 use Rattle.lt_runner.specs.Attempt.{bar_of}
 use Rattle.lt_runner.specs.Plays.{next_wish}
 use Rattle.lt_runner.specs.Serial.{Game, game_at, turn_of, with_turn, is_waiting, is_ready, wishes_in, line_move, does, settles, plays_line, plays_next, plays_on, retried}
 use Rattle.lt_runner.specs.Steps.{IsSteady, IsInOrder}
-use Rattle.lt_runner.specs.Settles.{OwnersWait, IsSettled}
+use Rattle.lt_runner.specs.Settles.{OwnersWait}
 use Rattle.lt_runner.specs.StartsAlone.{MayStartAtOnce, IsLockMove}
 use Rattle.lt_runner.specs.Board.{turns_of, seat_so}
 use Rattle.lt_runner.specs.Listed.{IsRegistryOf, listed_in}

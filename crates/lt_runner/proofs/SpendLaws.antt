@@ -1,9 +1,9 @@
 -- What one call of a play spends.
-use Rattle.std.proofs.Common.{◌≡◌, ℕ, ◌+◌, ◌-◌, ◌*◌, ◌<◌, ◌≤◌, List, [], ◌∷◌, ◌++◌, Bool, true, false, if◌then◌else◌, IsTrue, is_some, Some, None, Result, Ok, Err}
+use Rattle.std.proofs.Common.{◌≡◌, ℕ, ◌+◌, ◌-◌, ◌*◌, ◌<◌, ◌≤◌, List, [], ◌∷◌, ◌++◌, Bool, true, false, if◌then◌else◌, IsTrue, is_some, None, Ok, Err}
 use Rattle.std.proofs.Common.{length, refl, sym, ap, subst, ◌∙◌, arith, append_assoc, append-nil, length-append}
 use Rattle.lt_ranges.specs.Interval.{Interval}
 use Rattle.lt_seq.specs.declared.event.Deed.{Deed}
-use Rattle.lt_seq.specs.declared.event.Deed.TheVariants.{Ask, Free, Join}
+use Rattle.lt_seq.specs.declared.event.Deed.TheVariants.{Ask, Free}
 use Rattle.lt_seq.specs.declared.event.Reply.TheVariants.{Granted}
 use Rattle.lt_seq.specs.declared.event.Receipt.{Receipt}
 use Rattle.lt_seq.specs.declared.fault.Fault.{Fault}
@@ -17,13 +17,13 @@ use Rattle.lt_history.specs.declared.outcome.Outcome.{Outcome}
 use Rattle.lt_history.specs.declared.outcome.Outcome.TheVariants.{OutOfLocks as StoppedAt}
 use Rattle.lt_runner.specs.declared.release.Release.{Release}
 use Rattle.lt_runner.specs.declared.turn.Moved.{Moved}
-use Rattle.lt_runner.specs.declared.turn.Moved.TheVariants.{Played, Held, Ended}
+use Rattle.lt_runner.specs.declared.turn.Moved.TheVariants.{Played, Held}
 use Rattle.lt_runner.specs.TurnView.{Turn, Seat}
-use Rattle.lt_runner.specs.Turn.{reply_in, asked_at, ending, past, rest_of, rest_of_release}
+use Rattle.lt_runner.specs.Turn.{reply_in, asked_at, ending, rest_of, rest_of_release}
 use Rattle.lt_runner.specs.Attempt.{bar_of}
 use Rattle.lt_runner.specs.Seats.{idle}
 use Rattle.lt_runner.specs.PlaysOn.{IsFit, IsNext, IsNextAsk, UnlessShort, moved_to}
-use Rattle.lt_runner.specs.Work.{owed, work, steps, Spends, StepsOn}
+use Rattle.lt_runner.specs.Work.{owed, steps, Spends, StepsOn}
 use Rattle.lt_runner.proofs.AnswerLaws.{joined_is}
 use Rattle.lt_runner.proofs.WorkLaws.{IsPaid, paid_past, paid_ended, paid_asked, paid_refused, paid_kept, paid_freed, steps_freed, open_of, spends_paid}
 

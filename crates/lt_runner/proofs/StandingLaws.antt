@@ -1,44 +1,28 @@
 -- What a transaction's moves make of its turn, and of what it holds, whatever others do between.
-use Rattle.std.proofs.Common.{◌≡◌, ◌≢◌, ℕ, zero, suc, ◌+◌, ◌<◌, ◌≤◌, List, [], ◌∷◌, ◌++◌, map, filter, Bool, true, false, ◌==◌, ◌&&◌, ◌||◌, not, if◌then◌else◌, IsTrue, Option, Some, None, is_some}
-use Rattle.std.proofs.Common.{length, get_or, replicate, refl, sym, ap, subst, ◌∙◌, arith, eq-eqb, append_assoc, append-nil, length-append, get_or-set_same, get_or-set_other}
-use Rattle.std.specs.List.{AllByRecursion, flat_map, list_any, fold}
+use Rattle.std.proofs.Common.{◌≡◌, ℕ, zero, suc, ◌≤◌, List, [], ◌∷◌, ◌++◌, Bool, true, false, ◌==◌, ◌||◌, if◌then◌else◌, IsTrue, Option, Some, None, is_some}
+use Rattle.std.proofs.Common.{length, replicate, refl, sym, ap, subst, ◌∙◌, arith}
+use Rattle.std.specs.List.{AllByRecursion}
 use Rattle.std.proofs.lemmas.Bool.Decides.{nat_tests}
-use Rattle.lt_ranges.specs.Interval.{Interval, IsInterval, overlap, whole}
+use Rattle.lt_ranges.specs.Interval.{Interval}
 use Rattle.lt_seq.specs.declared.event.Deed.{Deed}
-use Rattle.lt_seq.specs.declared.event.Deed.TheVariants.{Ask, Free, Who, Join}
 use Rattle.lt_seq.specs.declared.event.Reply.{Reply}
 use Rattle.lt_seq.specs.declared.event.Reply.TheVariants.{Granted, Buffered, HeldBy}
 use Rattle.lt_seq.specs.declared.event.Event.{Event}
-use Rattle.lt_seq.specs.declared.event.Pair.{Pair}
-use Rattle.lt_seq.specs.declared.event.Receipt.{Receipt}
-use Rattle.lt_seq.specs.Table.{Setting, TreeState, fresh, tree_at, after_free, step}
-use Rattle.lt_seq.specs.Pairs.{is_own}
-use Rattle.lt_seq.specs.History.{after, IsLegal}
-use Rattle.lt_seq.specs.Questions.{question, receipts_of}
-use Rattle.lt_seq.proofs.HistoryLaws.{after_more}
-use Rattle.lt_seq.proofs.LawfulLaws.{lawful_history}
+use Rattle.lt_seq.specs.Table.{Setting}
 use Rattle.lt_trace.specs.Grammar.{is_last}
 use Rattle.lt_trace.specs.declared.line.Line.{Line}
 use Rattle.lt_trace.specs.declared.line.LineDeed.{LineDeed}
 use Rattle.lt_trace.specs.declared.line.LineDeed.TheVariants.{Try, Lock, End, Abort, Escalate, Big}
 use Rattle.lt_requests.specs.declared.wish.Wish.{Wish}
 use Rattle.lt_requests.specs.declared.cycle.Edge.{Edge}
-use Rattle.lt_requests.specs.Search.{IsSearch, question_for, new_wishes, wishes_of}
 use Rattle.lt_runner.specs.declared.release.Release.{Release}
-use Rattle.lt_runner.specs.TurnView.{Turn, Recorded, Seat}
-use Rattle.lt_runner.specs.Turn.{Move, leaves, asks, waits, stops, escalates, grows, ends, frees, receipts_in, turn_after, reply_in, asked_at, ended_at, answered_by, locked_by, walked, rest_of, rest_of_release, nothing_recorded}
-use Rattle.lt_runner.specs.Attempt.{AreOfTrees, IsAttempt}
-use Rattle.lt_runner.specs.Plays.{Stage, stage_after, stage_after_all, opening_stage, opening_turn, MayDo, MayFree, IsMove, ArePlayed, has_last, with_end, own_of, lines_for, end_of, line_question, next_wish, is_lock, is_ask, is_big}
+use Rattle.lt_runner.specs.TurnView.{Turn, Seat}
+use Rattle.lt_runner.specs.Turn.{Move, leaves, asks, waits, stops, escalates, grows, ends, frees, turn_after, reply_in, asked_at, ended_at, answered_by, locked_by, walked, rest_of, nothing_recorded}
+use Rattle.lt_runner.specs.Plays.{Stage, stage_after, stage_after_all, opening_stage, opening_turn, MayDo, MayFree, IsMove, ArePlayed, has_last, own_of, lines_for, end_of, line_question, next_wish, is_lock, is_big}
 use Rattle.lt_runner.specs.Played.{Search, Stands, IsAtLock}
-use Rattle.lt_runner.specs.Steps.{IsSteady, IsFitDeed, IsFitLine, IsFitRelease, AreRanges}
-use Rattle.lt_runner.specs.Due.{ranges_in, due_in, OverlapsOne, AreDue, IsDueReply, IsDueDeed}
-use Rattle.lt_runner.specs.Standing.{AreFitDeeds, IsStanding, OwnsDue}
-use Rattle.lt_runner.proofs.ChoiceLaws.{on_true, on_false}
-use Rattle.lt_runner.proofs.SteadyLaws.{steady_after, steady_freed, after_txn}
-use Rattle.lt_runner.proofs.GrowLaws.{PairsAt}
-use Rattle.lt_runner.proofs.DueLaws.{due_more, due_events, legal_next}
-use Rattle.lt_runner.proofs.DueTurnLaws.{IsLineMove, GivesMore, more_after, due_answered, due_locked, overlaps_whole}
-use Rattle.lt_runner.proofs.DueGameLaws.{after_free_due, not_overlapping}
+use Rattle.lt_runner.specs.Steps.{IsSteady, IsFitLine, AreRanges}
+use Rattle.lt_runner.specs.Standing.{AreFitDeeds, IsStanding}
+use Rattle.lt_runner.proofs.SteadyLaws.{steady_after, steady_freed}
 use Rattle.lt_runner.proofs.StuckLaws.{lock_wish}
 
 -- Its turn.

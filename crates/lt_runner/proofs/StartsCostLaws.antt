@@ -1,17 +1,16 @@
 -- What a start or a retry of a transaction that waits costs.
-use Rattle.std.proofs.Common.{◌≡◌, ℕ, ◌+◌, ◌-◌, ◌*◌, ◌<◌, ◌≤◌, List, [], ◌∷◌, ◌++◌, Bool, true, false, if◌then◌else◌, is_some, Option, Some, None, Result, Ok, Err}
-use Rattle.std.proofs.Common.{inl, inr, length, refl, sym, ap, subst, ◌∙◌, arith, append_assoc, length-append}
+use Rattle.std.proofs.Common.{◌≡◌, ℕ, ◌+◌, ◌-◌, ◌*◌, ◌≤◌, List, [], ◌∷◌, Bool, true, false, if◌then◌else◌, is_some, Option, Some, None, Result, Ok, Err}
+use Rattle.std.proofs.Common.{inl, inr, length, refl, sym, ap, subst, ◌∙◌, arith, length-append}
 use Rattle.lt_seq.specs.declared.event.Receipt.{Receipt}
 use Rattle.lt_seq.specs.declared.fault.Fault.{Fault}
 use Rattle.lt_seq.specs.declared.fault.Fault.TheVariants.{OutOfMemory, Busy, HistoryFull, OutOfLocks}
 use Rattle.lt_seq.specs.Table.{Setting}
 use Rattle.lt_seq.specs.Yard.{PassView, IsSound, AskAnswers}
-use Rattle.lt_trace.specs.declared.line.Line.{Line}
 use Rattle.lt_requests.specs.declared.wish.Wish.{Wish}
 use Rattle.lt_requests.specs.declared.cycle.Edge.{Edge}
 use Rattle.lt_requests.specs.declared.started.Started.{Started}
 use Rattle.lt_requests.specs.declared.started.Started.TheVariants.{Granted as StartedGranted, Waits, Deadlock}
-use Rattle.lt_requests.specs.Started.{HasFailed, IsGranted, IsSearched, HasFault, IsStarted, deed_for}
+use Rattle.lt_requests.specs.Started.{HasFailed, IsSearched, HasFault, IsStarted, deed_for}
 use Rattle.lt_history.specs.declared.outcome.Outcome.{Outcome}
 use Rattle.lt_history.specs.declared.outcome.Outcome.TheVariants.{Deadlock as EndedByDeadlock, OutOfLocks as StoppedAt}
 use Rattle.lt_runner.specs.TurnView.{Turn, Seat}
@@ -19,9 +18,8 @@ use Rattle.lt_runner.specs.Turn.{ending, granted_to, rest_of}
 use Rattle.lt_runner.specs.Attempt.{bar_of}
 use Rattle.lt_runner.specs.Seats.{idle, granted_at}
 use Rattle.lt_runner.specs.PlaysOn.{IsFit}
-use Rattle.lt_runner.specs.Board.{seat_so}
 use Rattle.lt_runner.specs.StartsOn.{IsAmongWishes}
-use Rattle.lt_runner.specs.StartsCost.{CostsStart, StartsCost}
+use Rattle.lt_runner.specs.StartsCost.{StartsCost}
 use Rattle.lt_runner.specs.Work.{lines_work, owed, work, some_left, steps}
 use Rattle.lt_runner.proofs.AnswerLaws.{joined_is}
 use Rattle.lt_runner.proofs.StartedLaws.{few_questions}

@@ -1,5 +1,5 @@
 -- What is left to a transaction falls by its events and by its steps.
-use Rattle.std.proofs.Common.{◌≡◌, ℕ, zero, suc, ◌+◌, ◌-◌, ◌*◌, ◌<◌, ◌≤◌, List, [], ◌∷◌, ◌++◌, Bool, true, false, if◌then◌else◌, IsTrue, is_some, Option, Some, None, Result, Ok, Err}
+use Rattle.std.proofs.Common.{◌≡◌, ℕ, zero, suc, ◌+◌, ◌-◌, ◌*◌, ◌<◌, ◌≤◌, List, [], ◌∷◌, ◌++◌, Bool, true, false, if◌then◌else◌, IsTrue, is_some, Some, None}
 use Rattle.std.proofs.Common.{length, get_or, slice_set, refl, sym, ap, subst, ◌∙◌, arith, length-append}
 use Rattle.lt_ranges.specs.Interval.{Interval, whole}
 use Rattle.lt_seq.specs.declared.event.Deed.TheVariants.{Ask, Join}

@@ -26,4 +26,4 @@ abbrev pub CrewsMakeFew : Type 0
 CrewsMakeFew =
     (trace : TraceView) (passes first : ℕ)
     → sum_of (work (setting_of trace passes first)) (seats_of trace)
-        + sum_of steps (seats_of trace) * pass_cost trace.trees (length (txns_of trace.lines)) ≤ most_events trace
+    + sum_of steps (seats_of trace) * pass_cost trace.trees (length (txns_of trace.lines)) ≤ most_events trace

@@ -50,7 +50,7 @@ RetriesGoOn =
     (setting : Setting) (turns : List Turn) (done : List ℕ) (txn : ℕ) (from mid now : List Event)
     → AreHeldAgain setting turns done from mid
     → (retried setting (game_at mid turns false) txn ≡ game_at now turns false)
-        ⊎ ((is_waiting (turn_of setting txn turns) ≡ false) × (now ≡ mid))
+    ⊎ ((is_waiting (turn_of setting txn turns) ≡ false) × (now ≡ mid))
     → AreHeldAgain setting turns (done ++ txn ∷ []) from now
 
 -- each that waits is registered, as it is behind the caller's turn

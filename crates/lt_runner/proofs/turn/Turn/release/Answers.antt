@@ -8,7 +8,7 @@ use Rattle.lt_runner.specs.Work.{Spends}
 use Rattle.lt_runner.specs.PlaysAlone.{IsCaused, IsFreedAtOnce}
 use Rattle.lt_runner.proofs.NoteLaws.{keeps_notes_itself, keeps_notes_then}
 use Rattle.lt_runner.proofs.PlayMoveLaws.{is_caused_since, with_rest, may_still}
-use Rattle.lt_runner.proofs.SpendLaws.{spends_nothing, spends_then, steps_over}
+use Rattle.lt_runner.proofs.SpendLaws.{spends_nothing, spends_then}
 use Rattle.lt_runner.proofs.turn.Turn.release.Goals as goal
 
 pub loop-free-init : goal.loop-free-init
