@@ -1,5 +1,6 @@
 -- What a crew's run may cost in all.
-use Rattle.std.proofs.Common.{◌≡◌, ℕ, zero, suc, ◌+◌, ◌*◌, ◌<◌, ◌≤◌, List, [], ◌∷◌, ◌++◌, map, Bool, true, false, ◌==◌, if◌then◌else◌, length, get_or, slice_set, replicate, nat_cmp}
+use Rattle.std.proofs.Common.{◌≡◌, ℕ, zero, suc, ◌+◌, ◌*◌, ◌<◌, ◌≤◌, List, [], ◌∷◌}
+use Rattle.std.proofs.Common.{◌++◌, map, Bool, true, false, ◌==◌, if◌then◌else◌, length, get_or, slice_set, replicate, nat_cmp}
 use Rattle.std.proofs.Common.{refl, sym, ap, subst, ◌∙◌, arith, length-append}
 use Rattle.std.specs.List.{AllByRecursion}
 use Rattle.std.specs.List.Sorted.{IsStrictlySortedBy}
@@ -22,7 +23,8 @@ use Rattle.lt_runner.proofs.OrderLaws.{ascending_sorted}
 use Rattle.lt_runner.proofs.CostLaws.{times_more}
 
 -- one of several that is put in its place
-pub sum_set : (f : Seat → ℕ) (seats : List Seat) (i : ℕ) (d is : Seat) → i < length seats → sum_of f (slice_set seats i is) + f (get_or seats i d) ≡ sum_of f seats + f is
+pub sum_set : (f : Seat → ℕ) (seats : List Seat) (i : ℕ) (d is : Seat) → i < length seats →
+    sum_of f (slice_set seats i is) + f (get_or seats i d) ≡ sum_of f seats + f is
 sum_set f [] i d is inside = absurd (omega arith)
 sum_set f (s ∷ ss) zero d is inside = omega arith
 sum_set f (s ∷ ss) (suc i) d is inside = omega (arith, sum_set f ss i d is (omega arith))
@@ -82,7 +84,12 @@ none_over (n ∷ ns) = omega (arith, none_over ns)
 all_own : (lines : List Line) (txns : List ℕ) → IsStrictlySortedBy nat_cmp txns → over (λ t. length (own_of t lines)) txns ≤ length lines
 all_own [] txns sorted = omega (arith, none_over txns)
 all_own (line ∷ lines) txns sorted =
-    omega (arith, over_add (same_one line.txn) (λ t. length (own_of t lines)) (λ t. length (own_of t (line ∷ lines))) txns (own_one line lines), once_same line.txn txns sorted, all_own lines txns sorted)
+    omega (
+      arith,
+      over_add (same_one line.txn) (λ t. length (own_of t lines)) (λ t. length (own_of t (line ∷ lines))) txns (own_one line lines),
+      once_same line.txn txns sorted,
+      all_own lines txns sorted,
+    )
 
 with_end_one : (txn : ℕ) (lines : List Line) → length (lines_for txn lines) ≤ length (own_of txn lines) + 1
 with_end_one txn lines = by_test (has_last (own_of txn lines))
@@ -107,16 +114,19 @@ none_owed (suc n) = omega (arith, none_owed n)
 
 -- what is to do at the opening
 record IsOpening (setting : Setting) (lines : List Line) (txns : List ℕ) (seats : List Seat) : Type 0 where
-  works : sum_of (work setting) seats ≡ (2 * setting.plan.trees + 3) * over (λ t. length (lines_for t lines)) txns + (2 * setting.plan.trees + 1) * length txns
+  works : sum_of (work setting) seats ≡ (2 * setting.plan.trees + 3) * over (λ t. length (lines_for t lines)) txns +
+      (2 * setting.plan.trees + 1) * length txns
   stepped : sum_of steps seats ≡ 2 * over (λ t. length (lines_for t lines)) txns
 
-opening_all : (setting : Setting) (lines : List Line) (txns : List ℕ) → IsOpening setting lines txns (map (λ txn. opening_seat setting.plan.trees txn (lines_for txn lines)) txns)
+opening_all : (setting : Setting) (lines : List Line) (txns : List ℕ) →
+    IsOpening setting lines txns (map (λ txn. opening_seat setting.plan.trees txn (lines_for txn lines)) txns)
 opening_all setting lines [] = record { works = omega arith; stepped = refl }
 opening_all setting lines (t ∷ ts) =
     let rest = opening_all setting lines ts in
     let n = length (lines_for t lines) in
     let m = over (λ k. length (lines_for k lines)) ts in
-    let here : work setting (opening_seat setting.plan.trees t (lines_for t lines)) ≡ (2 * setting.plan.trees + 3) * n + (2 * setting.plan.trees + 1) =
+    let here : work setting (opening_seat setting.plan.trees t (lines_for t lines)) ≡ (2 * setting.plan.trees + 3) * n +
+    (2 * setting.plan.trees + 1) =
     omega (arith, lines_are setting.plan.trees (lines_for t lines), none_owed setting.plan.trees) in
     record {
       works = omega (arith, rest.works, here, times_more (2 * setting.plan.trees + 3) n m, times_more (2 * setting.plan.trees + 1) 1 (length ts));
@@ -135,10 +145,12 @@ times_turned a (suc b) = let k = times_turned a b in let j = times_suc b a in om
 
 times_grouped : (a b c : ℕ) → (a * b) * c ≡ a * (b * c)
 times_grouped a b zero = omega arith
-times_grouped a b (suc c) = (let k = times_grouped a b c in let j = times_more a (b * c) b in let e : a * (b * suc c) ≡ a * (b * c + b) = ap (λ (x : ℕ). a * x) (let y : b * suc c ≡ b * c + b = omega arith in y) in omega (arith, k, j, e))
+times_grouped a b (suc c) = (let k = times_grouped a b c in let j = times_more a (b * c) b in let e : a * (b * suc c) ≡ a * (b * c + b) = ap
+    (λ (x : ℕ). a * x) (let y : b * suc c ≡ b * c + b = omega arith in y) in omega (arith, k, j, e))
 
 -- what is paid for, and a pass of retries for each step
-in_bound : (trees lines txns all works stepped : ℕ) → all ≤ lines + txns → works ≡ (2 * trees + 3) * all + (2 * trees + 1) * txns → stepped ≡ 2 * all →
+in_bound : (trees lines txns all works stepped : ℕ) → all ≤ lines + txns → works ≡ (2 * trees + 3) * all + (2 * trees + 1) * txns →
+    stepped ≡ 2 * all →
     works + stepped * (txns * (trees + 1 + txns)) ≤ most_of lines txns trees
 in_bound trees lines txns all works stepped few works_are steps_are =
     let n = 2 * lines + 2 * txns + 2 in
@@ -159,11 +171,13 @@ in_bound trees lines txns all works stepped few works_are steps_are =
     omega (arith, works_are, paid, once, twice, wide, passes, grouped, whole, turned)
 
 pub crews_make_few : (trace : TraceView) (passes first : ℕ) →
-    sum_of (work (setting_of trace passes first)) (seats_of trace) + sum_of steps (seats_of trace) * pass_cost trace.trees (length (txns_of trace.lines)) ≤ most_events trace
+    sum_of (work (setting_of trace passes first)) (seats_of trace) + sum_of steps (seats_of trace) * pass_cost trace.trees
+    (length (txns_of trace.lines)) ≤ most_events trace
 crews_make_few trace passes first =
     let txns = txns_of trace.lines in
     let opening = opening_all (setting_of trace passes first) trace.lines txns in
     let own = all_own trace.lines txns (ascending_sorted (map (λ (line : Line). line.txn) trace.lines)) in
     let more = all_lines trace.lines txns in
-    in_bound trace.trees (length trace.lines) (length txns) (over (λ t. length (lines_for t trace.lines)) txns) (sum_of (work (setting_of trace passes first)) (seats_of trace)) (sum_of steps (seats_of trace))
+    in_bound trace.trees (length trace.lines) (length txns) (over (λ t. length (lines_for t trace.lines)) txns)
+    (sum_of (work (setting_of trace passes first)) (seats_of trace)) (sum_of steps (seats_of trace))
     (omega (arith, own, more)) opening.works opening.stepped

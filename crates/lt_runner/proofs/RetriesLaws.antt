@@ -1,5 +1,6 @@
 -- Retries that are held again are the plain scheduler's, so a pass of them settles one.
-use Rattle.std.proofs.Common.{◌≡◌, ◌⊎◌, inl, inr, ℕ, ◌<◌, List, [], ◌∷◌, ◌++◌, map, Bool, true, false, ◌==◌, ◌&&◌, not, if◌then◌else◌, Some, None, is_some, is_none, Ok}
+use Rattle.std.proofs.Common.{◌≡◌, ◌⊎◌, inl, inr, ℕ, ◌<◌, List, [], ◌∷◌, ◌++◌, map}
+use Rattle.std.proofs.Common.{Bool, true, false, ◌==◌, ◌&&◌, not, if◌then◌else◌, Some, None, is_some, is_none, Ok}
 use Rattle.std.proofs.Common.{length, nat_cmp, refl, sym, ap, subst, ◌∙◌, arith}
 use Rattle.std.specs.List.{AllByRecursion, cons_option}
 use Rattle.std.proofs.lemmas.List.Sums.{fold-append}
@@ -20,7 +21,8 @@ use Rattle.lt_runner.specs.TurnView.{Turn, Seat}
 use Rattle.lt_runner.specs.Turn.{Move, turn_after}
 use Rattle.lt_runner.specs.Attempt.{bar_of}
 use Rattle.lt_runner.specs.Plays.{next_wish}
-use Rattle.lt_runner.specs.Serial.{Game, game_at, turn_of, with_turn, is_waiting, is_ready, wishes_in, line_move, does, settles, plays_line, plays_next, plays_on, retried}
+use Rattle.lt_runner.specs.Serial.{Game, game_at, turn_of, with_turn, is_waiting, is_ready, wishes_in}
+use Rattle.lt_runner.specs.Serial.{line_move, does, settles, plays_line, plays_next, plays_on, retried}
 use Rattle.lt_runner.specs.Steps.{IsSteady, IsInOrder}
 use Rattle.lt_runner.specs.Settles.{OwnersWait}
 use Rattle.lt_runner.specs.StartsAlone.{MayStartAtOnce, IsLockMove}
@@ -36,7 +38,8 @@ use Rattle.lt_runner.proofs.StartedLaws.{started_at_once}
 use Rattle.lt_runner.proofs.SettlesLaws.{settles_one}
 
 -- a turn put in its own place
-with_same : (setting : Setting) (turn : Turn) (turns us : List Turn) → turn_of setting turn.txn turns ≡ turn → AllByRecursion (IsPlaced setting turns) us → with_turn turn us ≡ us
+with_same : (setting : Setting) (turn : Turn) (turns us : List Turn) → turn_of setting turn.txn turns ≡ turn →
+    AllByRecursion (IsPlaced setting turns) us → with_turn turn us ≡ us
 with_same setting turn turns [] there placed = refl
 with_same setting turn turns (u ∷ us) there placed = by_test (u.txn == turn.txn) refl (with_same setting turn turns us there placed.1)
   where
@@ -65,9 +68,12 @@ goes_on setting turn steady held = by_outcome (is_some turn.outcome) refl
     by_outcome true e = absurd (let k : true ≡ false = sym held ∙ steady.still e in cc)
     by_outcome false e = e
 
-pub retries_are_held : (setting : Setting) (bar : ℕ) (turns : List Turn) (turn : Turn) (wish : Wish) (others registry before left : List Wish) (old new : PassView) (owners : List ℕ) →
-    IsInOrder setting (map (λ t. t.txn) turns) (game_at old.front turns false) → is_in turn.txn (map (λ t. t.txn) turns) ≡ true → turn_of setting turn.txn turns ≡ turn → turn.waits ≡ true →
-    next_wish turn.txn turn.lines ≡ Some wish → registry ≡ wishes_in turns → Ascend registry → bar ≡ bar_of setting turn → MayStartAtOnce setting old registry →
+pub retries_are_held : (setting : Setting) (bar : ℕ) (turns : List Turn) (turn : Turn) (wish : Wish) (others registry before left : List Wish)
+    (old new : PassView) (owners : List ℕ) →
+    IsInOrder setting (map (λ t. t.txn) turns) (game_at old.front turns false) → is_in turn.txn (map (λ t. t.txn) turns) ≡ true →
+    turn_of setting turn.txn turns ≡ turn → turn.waits ≡ true →
+    next_wish turn.txn turn.lines ≡ Some wish → registry ≡ wishes_in turns → Ascend registry → bar ≡ bar_of setting turn →
+    MayStartAtOnce setting old registry →
     IsStarted setting bar wish others registry before old new left (Ok (Waits owners)) →
     retried setting (game_at old.front turns false) turn.txn ≡ game_at new.front turns false
 retries_are_held setting bar turns turn wish others registry before left old new owners order number there held next all ascend same may is =
@@ -119,7 +125,8 @@ retries_are_held setting bar turns turn wish others registry before left old new
         ∙ ap (λ (ts : List Turn). game_at new.front ts false) same_turns
 
     steady : IsSteady setting turn
-    steady = turn_has (IsSteady setting) setting (map (λ t. t.txn) turns) game turn (record { order = order; number = number; there = there }) order.steady
+    steady = turn_has (IsSteady setting) setting (map (λ t. t.txn) turns) game turn
+        (record { order = order; number = number; there = there }) order.steady
 
     goes : is_some turn.outcome ≡ false
     goes = goes_on setting turn steady held
@@ -128,31 +135,37 @@ retries_are_held setting bar turns turn wish others registry before left old new
     played =
         ap (λ (t : Turn). plays_line setting turn.txn t.lines game) there
         ∙ ap (λ (ls : List Line). plays_line setting turn.txn ls game) at.next
-        ∙ ap (λ (t : Turn). (let g = does setting t (line_move setting game t at.line.deed) game in settles setting (turn_of setting turn.txn g.turns) g)) there
+        ∙ ap (λ (t : Turn). (let g = does setting t (line_move setting game t at.line.deed) game in settles setting
+        (turn_of setting turn.txn g.turns) g)) there
         ∙ ap (λ (g : Game). settles setting (turn_of setting turn.txn g.turns) g) does_is
         ∙ ap (λ (t : Turn). settles setting t later) there
         ∙ on_false (is_some turn.outcome) _ later goes
 
 pub retries_settle_one : (setting : Setting) (turns : List Turn) (from now : List Event) (txn : ℕ) → 0 < setting.plan.passes →
     IsInOrder setting (map (λ t. t.txn) turns) (game_at from turns false) → IsLegal setting from → OwnersWait setting (game_at from turns false) →
-    is_in txn (map (λ t. t.txn) turns) ≡ true → is_waiting (turn_of setting txn turns) ≡ true → AreHeldAgain setting turns (map (λ t. t.txn) turns) from now → ⊥
+    is_in txn (map (λ t. t.txn) turns) ≡ true → is_waiting (turn_of setting txn turns) ≡ true →
+    AreHeldAgain setting turns (map (λ t. t.txn) turns) from now → ⊥
 retries_settle_one setting turns from now txn passes order legal owners number held again =
     let settled = settles_one setting (map (λ t. t.txn) turns) (game_at from turns false) txn passes order legal owners number held in
     let past : length (turn_of setting settled.txn turns).lines < length (turn_of setting settled.txn turns).lines =
-    subst (λ (g : Game). length (turn_of setting settled.txn g.turns).lines < length (turn_of setting settled.txn turns).lines) again settled.past_it in
+    subst (λ (g : Game). length (turn_of setting settled.txn g.turns).lines < length
+    (turn_of setting settled.txn turns).lines) again settled.past_it in
     omega (arith, past)
 
-pub retries_go_on : (setting : Setting) (turns : List Turn) (done : List ℕ) (txn : ℕ) (from mid now : List Event) → AreHeldAgain setting turns done from mid →
+pub retries_go_on : (setting : Setting) (turns : List Turn) (done : List ℕ) (txn : ℕ) (from mid now : List Event) →
+    AreHeldAgain setting turns done from mid →
     (retried setting (game_at mid turns false) txn ≡ game_at now turns false) ⊎ ((is_waiting (turn_of setting txn turns) ≡ false) × (now ≡ mid)) →
     AreHeldAgain setting turns (done ++ txn ∷ []) from now
 retries_go_on setting turns done txn from mid now so_far one =
     fold-append (retried setting) (game_at from turns false) done (txn ∷ []) ∙ ap (λ (g : Game). retried setting g txn) so_far ∙ by_case one
   where
-    by_case : (retried setting (game_at mid turns false) txn ≡ game_at now turns false) ⊎ ((is_waiting (turn_of setting txn turns) ≡ false) × (now ≡ mid)) →
+    by_case : (retried setting (game_at mid turns false) txn ≡ game_at now turns false) ⊎
+        ((is_waiting (turn_of setting txn turns) ≡ false) × (now ≡ mid)) →
         retried setting (game_at mid turns false) txn ≡ game_at now turns false
     by_case (inl held) = held
     by_case (inr (quiet, same)) =
-        on_false (is_waiting (turn_of setting txn turns)) _ (game_at mid turns false) quiet ∙ ap (λ (es : List Event). game_at es turns false) (sym same)
+        on_false (is_waiting (turn_of setting txn turns)) _ (game_at mid turns false) quiet
+        ∙ ap (λ (es : List Event). game_at es turns false) (sym same)
 
 listed_same : (seats : List Seat) → AllWaitersListed seats → listed_in seats ≡ wishes_in (turns_of seats)
 listed_same [] all = refl
@@ -164,11 +177,16 @@ numbers_same : (seats : List Seat) → map (λ (t : Turn). t.txn) (turns_of seat
 numbers_same [] = refl
 numbers_same (s ∷ ss) = ap (λ (ns : List ℕ). s.turn.txn ∷ ns) (numbers_same ss)
 
-pub listed_are_waiters : (registry : List Wish) (seats : List Seat) → IsRegistryOf registry seats → AllWaitersListed seats → (registry ≡ wishes_in (turns_of seats)) × Ascend registry
+pub listed_are_waiters : (registry : List Wish) (seats : List Seat) → IsRegistryOf registry seats → AllWaitersListed seats →
+    (registry ≡ wishes_in (turns_of seats)) × Ascend registry
 listed_are_waiters registry seats is all =
-    let same = is.all ∙ listed_same seats all in
-    (same, subst Ascend (sym same) (increasing_from _ (wishes_rise (turns_of seats) (subst (IsStrictlySortedBy nat_cmp) (sym (numbers_same seats)) is.sorted))))
+    let same = is.all ∙ listed_same seats all in (
+      same,
+      subst Ascend (sym same) (increasing_from _ (wishes_rise (turns_of seats)
+          (subst (IsStrictlySortedBy nat_cmp) (sym (numbers_same seats)) is.sorted))),
+    )
 
-pub held_seats_stay : (seat : Seat) (owners : List ℕ) → seat.turn.waits ≡ true → seat.busy ≡ false → seat.listed ≡ seat.turn.waits → seat_so seat.turn (Ok (Waits owners)) ≡ seat
+pub held_seats_stay : (seat : Seat) (owners : List ℕ) → seat.turn.waits ≡ true → seat.busy ≡ false → seat.listed ≡ seat.turn.waits →
+    seat_so seat.turn (Ok (Waits owners)) ≡ seat
 held_seats_stay seat owners held free listed =
     λ j. record { turn = waits_still seat.turn held j; busy = sym free j; listed = sym (listed ∙ held) j }

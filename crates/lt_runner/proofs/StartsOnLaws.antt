@@ -1,5 +1,6 @@
 -- What a start or a retry makes of a transaction that waits, whatever others do meanwhile.
-use Rattle.std.proofs.Common.{◌≡◌, ℕ, ◌+◌, ◌≤◌, List, [], ◌∷◌, ◌++◌, Bool, true, false, ◌&&◌, ◌||◌, ◌==◌, not, if◌then◌else◌, IsTrue, Option, Some, None, Result, Ok, Err, zero, length}
+use Rattle.std.proofs.Common.{◌≡◌, ℕ, ◌+◌, ◌≤◌, List, [], ◌∷◌, ◌++◌, Bool, true, false, ◌&&◌}
+use Rattle.std.proofs.Common.{◌||◌, ◌==◌, not, if◌then◌else◌, IsTrue, Option, Some, None, Result, Ok, Err, zero, length}
 use Rattle.std.proofs.Common.{inl, inr, refl, sym, ap, subst, ◌∙◌, arith, append_assoc, append-nil, length-append}
 use Rattle.std.specs.List.{AllByRecursion, find}
 use Rattle.std.proofs.lemmas.List.{map-append}
@@ -58,8 +59,10 @@ behind_append since (x ∷ xs) ys = behind_append (x.place + 1) xs ys
 front_longer : (setting : Setting) (a b : List Event) → IsFront a b → place_after setting a ≤ place_after setting b
 front_longer setting a b (more, is) = omega (arith, ap length is, length-append a more)
 
-inside_on : (setting : Setting) (a b : List Event) (receipts : List Receipt) → IsFront a b → AreInside setting a receipts → AreInside setting b receipts
-inside_on setting a b receipts (more, is) inside = subst (λ (es : List Event). AreInside setting es receipts) (sym is) (list_inside setting a more receipts inside)
+inside_on : (setting : Setting) (a b : List Event) (receipts : List Receipt) → IsFront a b → AreInside setting a receipts →
+    AreInside setting b receipts
+inside_on setting a b receipts (more, is) inside = subst (λ (es : List Event). AreInside setting es receipts) (sym is)
+    (list_inside setting a more receipts inside)
 
 -- The search.
 
@@ -156,7 +159,8 @@ held_none true n e = absurd cc
 held_none false n e = refl
 
 -- whether it waited before or not
-pub grants_move : (setting : Setting) (old joined new : PassView) (seat : Seat) (wish : Wish) (joins : List Receipt) (ask : Receipt) (buffered : Bool) →
+pub grants_move : (setting : Setting) (old joined new : PassView) (seat : Seat) (wish : Wish) (joins : List Receipt) (ask : Receipt)
+    (buffered : Bool) →
     HasLock seat.turn.txn wish seat.turn.lines → reply_in ask.event.deed ≡ (if buffered then Buffered else Granted) →
     AreJoined setting (bar_of setting seat.turn) old joined seat.turn.txn 0 joins → IsSound setting old →
     IsAsked setting (bar_of setting seat.turn) joins joined new seat.turn.txn (deed_for wish) ask →
@@ -191,7 +195,8 @@ grants_move setting old joined new seat wish joins ask buffered at reply chain s
     }
 
 asked_made : (setting : Setting) (old joined new : PassView) (txn bar : ℕ) (joins : List Receipt) (deed : Deed) (ask : Receipt) →
-    AreJoined setting bar old joined txn 0 joins → IsSound setting old → Happens setting joined new txn deed ask → Searching setting old new txn (joins ++ ask ∷ [])
+    AreJoined setting bar old joined txn 0 joins → IsSound setting old → Happens setting joined new txn deed ask →
+    Searching setting old new txn (joins ++ ask ∷ [])
 asked_made setting old joined new txn bar joins deed ask chain sound happens =
     let all = joined_is setting bar old joined txn 0 joins chain sound in
     let h = happened setting joined new txn deed ask happens in
@@ -216,45 +221,55 @@ searched_made setting old asked new txn before found one two = record {
   alone = λ every. two.alone (one.rights ∙ every) ∙ ap (λ (es : List Event). es ++ events_of found) (one.alone every)
       ∙ append_assoc old.front (events_of before) (events_of found)
       ∙ ap (λ (es : List Event). old.front ++ es) (sym (map-append (λ (r : Receipt). r.event) before found));
-  last = λ since low. subst (λ (n : ℕ). n ≤ place_after setting new.front) (sym (behind_append since before found)) (two.last (behind since before) (one.last since low));
+  last = λ since low. subst (λ (n : ℕ). n ≤ place_after setting new.front) (sym (behind_append since before found))
+      (two.last (behind since before) (one.last since low));
 }
 
-plays_made : (setting : Setting) (found : List Search) (old new : PassView) (was is : Seat) (made : List Receipt) (move : Move) → Searching setting old new was.turn.txn made →
+plays_made : (setting : Setting) (found : List Search) (old new : PassView) (was is : Seat) (made : List Receipt) (move : Move) →
+    Searching setting old new was.turn.txn made →
     IsAmong found was.turn.txn move → MovesBy true setting old.front new.front was is made move → PlaysOn setting found old new was is
 plays_made setting found old new was is made move by among moves =
     plays_move setting found old new was is made move by.goes by.rights by.mine by.own by.alone among moves
 
-granted_plays : (setting : Setting) (bar : ℕ) (seat : Seat) (wish : Wish) (old new : PassView) (place : ℕ) (buffered : Bool) → bar ≡ bar_of setting seat.turn →
+granted_plays : (setting : Setting) (bar : ℕ) (seat : Seat) (wish : Wish) (old new : PassView) (place : ℕ) (buffered : Bool) →
+    bar ≡ bar_of setting seat.turn →
     IsSound setting old → HasLock seat.turn.txn wish seat.turn.lines → IsGranted setting bar wish old new place buffered →
     PlaysOn setting [] old new seat (idle (granted_at seat.turn buffered))
 granted_plays setting bar seat wish old new place buffered same sound at granted =
     let ask = granted.ask in
     let answers = answers_of setting bar wish.txn old new seat.turn (deed_for wish) (Ok ask) same at.own granted.answers in
     plays_made setting [] old new seat (idle (granted_at seat.turn buffered)) (answers.joins ++ ask ∷ []) (asks answers.joins ask)
-    (asked_made setting old answers.joined new seat.turn.txn (bar_of setting seat.turn) answers.joins (deed_for wish) ask answers.chain sound answers.answer.happens)
+    (asked_made setting old answers.joined new seat.turn.txn (bar_of setting seat.turn) answers.joins
+    (deed_for wish) ask answers.chain sound answers.answer.happens)
     tt
-    (grants_move setting old answers.joined new seat wish answers.joins ask buffered at (same_reply ask.event.deed ∙ granted.reply_is) answers.chain sound answers.answer)
+    (grants_move setting old answers.joined new seat wish answers.joins ask buffered at
+    (same_reply ask.event.deed ∙ granted.reply_is) answers.chain sound answers.answer)
 
 -- It was held.
 
-lock_held : (deed : LineDeed) (wish : Wish) (reply : Reply) (owners : List ℕ) → deed ≡ Lock wish.tree wish.range → reply ≡ HeldBy owners → IsTrue (is_lock deed && is_held reply)
+lock_held : (deed : LineDeed) (wish : Wish) (reply : Reply) (owners : List ℕ) → deed ≡ Lock wish.tree wish.range → reply ≡ HeldBy owners →
+    IsTrue (is_lock deed && is_held reply)
 lock_held deed wish reply owners lock held =
     subst (λ (d : LineDeed). IsTrue (is_lock d && is_held reply)) (sym lock) (subst (λ (r : Reply). IsTrue (is_held r)) (sym held) refl)
 
-are_wishes : (seat : Seat) (wish : Wish) (wishes : List Wish) (at : HasLock seat.turn.txn wish seat.turn.lines) → IsAmongWishes seat wish wishes → AreWishes wishes seat.turn.txn at.line.deed
+are_wishes : (seat : Seat) (wish : Wish) (wishes : List Wish) (at : HasLock seat.turn.txn wish seat.turn.lines) → IsAmongWishes seat wish wishes →
+    AreWishes wishes seat.turn.txn at.line.deed
 are_wishes seat wish wishes at among = (
   registered_ascend wishes among.ascend,
   subst (λ (n : ℕ). find (λ w. w.txn == n) wishes ≡ Some wish) at.own among.own ∙ sym (ap (next_wish seat.turn.txn) (sym at.next) ∙ among.next),
 )
 
 -- The turn behind the search.
-held_turn : (setting : Setting) (before : List Event) (seat : Seat) (wish : Wish) (wishes : List Wish) (pass : ℕ) (ask : Receipt) (found : List Receipt) (owners : List ℕ) (walk : Option (List Edge)) →
-    HasLock seat.turn.txn wish seat.turn.lines → ask.event ≡ event_after setting before pass seat.turn.txn (deed_for wish) → reply_of ask.event.deed ≡ HeldBy owners →
+held_turn : (setting : Setting) (before : List Event) (seat : Seat) (wish : Wish) (wishes : List Wish) (pass : ℕ) (ask : Receipt)
+    (found : List Receipt) (owners : List ℕ) (walk : Option (List Edge)) →
+    HasLock seat.turn.txn wish seat.turn.lines → ask.event ≡ event_after setting before pass seat.turn.txn (deed_for wish) →
+    reply_of ask.event.deed ≡ HeldBy owners →
     walk ≡ cycle_of (edges_of wish.txn ask.place (wishes_of owners wishes) ++ edges_in wishes found) wish.txn → (joins : List Receipt) →
     walked walk seat.turn ≡ turn_after seat.turn (waits joins ask wishes found)
 held_turn setting before seat wish wishes pass ask found owners walk at event reply is joins =
     ap (λ (w : Option (List Edge)). walked w turn) walk_is
-    ∙ ap (λ (r : Reply). locked_by wish.tree wish.range r (cycle_of (edges_in wishes (ask ∷ found)) turn.txn) turn) (sym (same_reply ask.event.deed ∙ reply))
+    ∙ ap (λ (r : Reply). locked_by wish.tree wish.range r (cycle_of (edges_in wishes (ask ∷ found)) turn.txn) turn)
+    (sym (same_reply ask.event.deed ∙ reply))
     ∙ sym (at_lock turn wish (reply_in ask.event.deed) (cycle_of (edges_in wishes (ask ∷ found)) turn.txn) at)
   where
     turn : Turn
@@ -271,18 +286,23 @@ held_turn setting before seat wish wishes pass ask found owners walk at event re
         ∙ ap (λ (ns : List ℕ). cycle_of (edges_of turn.txn ask.place (wishes_of ns wishes) ++ edges_in wishes found) turn.txn) (sym named)
         ∙ ap (λ (n : ℕ). cycle_of (edges_of n ask.place (wishes_of (named_in ask.event.deed) wishes) ++ edges_in wishes found) turn.txn) (sym waiter)
 
-searched_plays : (setting : Setting) (bar : ℕ) (seat : Seat) (wish : Wish) (wishes : List Wish) (old new : PassView) (owners : List ℕ) (walk : Option (List Edge)) → bar ≡ bar_of setting seat.turn →
-    IsSound setting old → HasLock seat.turn.txn wish seat.turn.lines → IsAmongWishes seat wish wishes → IsSearched setting bar wish wishes old new owners walk →
+searched_plays : (setting : Setting) (bar : ℕ) (seat : Seat) (wish : Wish) (wishes : List Wish) (old new : PassView) (owners : List ℕ)
+    (walk : Option (List Edge)) → bar ≡ bar_of setting seat.turn →
+    IsSound setting old → HasLock seat.turn.txn wish seat.turn.lines → IsAmongWishes seat wish wishes →
+    IsSearched setting bar wish wishes old new owners walk →
     SearchesOn setting wishes old new seat (searched_seat (walked walk seat.turn))
 searched_plays setting bar seat wish wishes old new owners walk same sound at among was = record {
   place = ask.place;
   late = (let g = front_longer setting old.front joined.front all.goes.front in omega (arith, g, h.looked, h.waited));
   inside = (let k = front_longer setting asked.front new.front searching.goes.front in omega (arith, h.inside, k));
-  plays = plays_made setting (record { txn = turn.txn; place = ask.place; wishes = wishes } ∷ []) old new seat (searched_seat (walked walk turn)) (joins ++ ask ∷ found) (waits joins ask wishes found)
+  plays = plays_made setting (record { txn = turn.txn; place = ask.place; wishes = wishes } ∷ []) old new seat (searched_seat (walked walk turn))
+      (joins ++ ask ∷ found) (waits joins ask wishes found)
       by (zero, omega arith, refl)
-      (subst (λ (t : Turn). MovesBy true setting old.front new.front seat (searched_seat t) (joins ++ ask ∷ found) (waits joins ask wishes found)) (sym turn_is)
+      (subst (λ (t : Turn). MovesBy true setting old.front new.front seat (searched_seat t) (joins ++ ask ∷ found) (waits joins ask wishes found))
+      (sym turn_is)
       (waits_move setting old joined asked new seat wish.tree wish.range at.line at.rest joins ask wishes found at.next (asks_it turn wish at)
-      (lock_held at.line.deed wish (reply_in ask.event.deed) owners at.lock reply) (are_wishes seat wish wishes at among) answers.chain sound answers.answer searched));
+      (lock_held at.line.deed wish (reply_in ask.event.deed) owners at.lock reply)
+      (are_wishes seat wish wishes at among) answers.chain sound answers.answer searched));
 }
   where
     turn : Turn
@@ -316,7 +336,8 @@ searched_plays setting bar seat wish wishes old new owners walk same sound at am
     reply = same_reply ask.event.deed ∙ was.held.reply_is
 
     searching : Searching setting asked new turn.txn found
-    searching = subst (λ (n : ℕ). Searching setting asked new n found) at.own (made_is setting asked new wish.txn found was.searched.made answers.answer.happens.goes.sound)
+    searching = subst (λ (n : ℕ). Searching setting asked new n found) at.own
+        (made_is setting asked new wish.txn found was.searched.made answers.answer.happens.goes.sound)
 
     searched : HasSearched setting asked.front new.front turn.txn wishes ask found
     searched = record {
@@ -329,14 +350,18 @@ searched_plays setting bar seat wish wishes old new owners walk same sound at am
     by : Searching setting old new turn.txn (joins ++ ask ∷ found)
     by = subst (Searching setting old new turn.txn) (append_assoc joins (ask ∷ []) found)
         (searched_made setting old asked new turn.txn (joins ++ ask ∷ []) found
-        (asked_made setting old joined asked turn.txn (bar_of setting turn) joins (deed_for wish) ask answers.chain sound answers.answer.happens) searching)
+        (asked_made setting old joined asked turn.txn (bar_of setting turn) joins
+        (deed_for wish) ask answers.chain sound answers.answer.happens) searching)
 
     turn_is : walked walk turn ≡ turn_after turn (waits joins ask wishes found)
-    turn_is = held_turn setting answers.answer.happens.before seat wish wishes joined.number ask found owners walk at answers.answer.happens.event was.held.reply_is was.searched.walk joins
+    turn_is =
+        held_turn setting answers.answer.happens.before seat wish wishes joined.number
+        ask found owners walk at answers.answer.happens.event was.held.reply_is was.searched.walk joins
 
 -- It was out of locks.
 
-stopped_plays : (setting : Setting) (bar : ℕ) (seat : Seat) (wish : Wish) (wishes : List Wish) (old new : PassView) (place rows : ℕ) → bar ≡ bar_of setting seat.turn → 1 ≤ setting.plan.trees →
+stopped_plays : (setting : Setting) (bar : ℕ) (seat : Seat) (wish : Wish) (wishes : List Wish) (old new : PassView) (place rows : ℕ) →
+    bar ≡ bar_of setting seat.turn → 1 ≤ setting.plan.trees →
     IsSound setting old → HasLock seat.turn.txn wish seat.turn.lines → HasFault setting bar wish wishes old new (OutOfLocks place rows) →
     PlaysOn setting [] old new seat (idle (ending (StoppedAt place rows) seat.turn))
 stopped_plays setting bar seat wish wishes old new place rows same trees sound at (inl short) = absurd (let k = short.1 in cc)
@@ -353,7 +378,8 @@ stopped_plays setting bar seat wish wishes old new place rows same trees sound a
     all.own
     (λ every. last.watches.alone (all.rights ∙ every) ∙ all.alone every)
     tt
-    (stops_move setting old joined new seat wish.tree wish.range at.line at.rest joins place rows at.next (asks_it seat.turn wish at) trees answers.chain sound last)
+    (stops_move setting old joined new seat wish.tree wish.range at.line at.rest joins place rows at.next
+    (asks_it seat.turn wish at) trees answers.chain sound last)
 stopped_plays setting bar seat wish wishes old new place rows same trees sound at (inr (inr cut)) = absurd (never cut.cut.failed)
   where
     never : HasFailed setting wish.txn cut.cut.left cut.cut.last new (OutOfLocks place rows) → ⊥
@@ -362,15 +388,18 @@ stopped_plays setting bar seat wish wishes old new place rows same trees sound a
 
 -- The answer.
 
-pub starts_play_on : (setting : Setting) (bar : ℕ) (seat : Seat) (wish : Wish) (others wishes before : List Wish) (old new : PassView) (left : List Wish) (result : Result Started Fault) →
-    bar ≡ bar_of setting seat.turn → MayStartAtOnce setting old wishes → IsSound setting old → IsAmongWishes seat wish wishes → IsStarted setting bar wish others wishes before old new left result →
+pub starts_play_on : (setting : Setting) (bar : ℕ) (seat : Seat) (wish : Wish) (others wishes before : List Wish) (old new : PassView)
+    (left : List Wish) (result : Result Started Fault) →
+    bar ≡ bar_of setting seat.turn → MayStartAtOnce setting old wishes → IsSound setting old → IsAmongWishes seat wish wishes →
+    IsStarted setting bar wish others wishes before old new left result →
     StartsOn setting wishes old new seat result
 starts_play_on setting bar seat wish others wishes before old new left (Ok (StartedGranted place buffered)) same may sound among is =
     granted_plays setting bar seat wish old new place buffered same sound (has_lock seat.turn.txn wish seat.turn.lines among.next) is.0
 starts_play_on setting bar seat wish others wishes before old new left (Ok (Waits owners)) same may sound among is =
     searched_plays setting bar seat wish wishes old new owners None same sound (has_lock seat.turn.txn wish seat.turn.lines among.next) among is.0
 starts_play_on setting bar seat wish others wishes before old new left (Ok (Deadlock walk)) same may sound among is =
-    searched_plays setting bar seat wish wishes old new is.0.0 (Some walk) same sound (has_lock seat.turn.txn wish seat.turn.lines among.next) among is.0.1
+    searched_plays setting bar seat wish wishes old new is.0.0 (Some walk) same sound
+    (has_lock seat.turn.txn wish seat.turn.lines among.next) among is.0.1
 starts_play_on setting bar seat wish others wishes before old new left (Err OutOfMemory) same may sound among is = tt
 starts_play_on setting bar seat wish others wishes before old new left (Err (Busy row holder)) same may sound among is =
     start_answers setting bar wish others wishes before old new left (Err (Busy row holder)) is among.ascend may.all may.places
