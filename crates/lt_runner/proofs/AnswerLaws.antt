@@ -32,10 +32,10 @@ use Rattle.lt_runner.proofs.PlayLaws.{used_at_front, list_inside, joins_stay, at
 
 -- Fronts.
 
-front_longer : (setting : Setting) (a b : List Event) → IsFront a b → place_after setting a ≤ place_after setting b
+pub front_longer : (setting : Setting) (a b : List Event) → IsFront a b → place_after setting a ≤ place_after setting b
 front_longer setting a b (more, is) = omega (arith, ap length is, length-append a more)
 
-inside_on : (setting : Setting) (a b : List Event) (receipts : List Receipt) → IsFront a b → AreInside setting a receipts → AreInside setting b receipts
+pub inside_on : (setting : Setting) (a b : List Event) (receipts : List Receipt) → IsFront a b → AreInside setting a receipts → AreInside setting b receipts
 inside_on setting a b receipts (more, is) inside = subst (λ (es : List Event). AreInside setting es receipts) (sym is) (list_inside setting a more receipts inside)
 
 -- An event's place is behind what was seen before it, and within what is seen then.

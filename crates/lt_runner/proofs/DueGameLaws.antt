@@ -39,10 +39,10 @@ use Rattle.lt_runner.proofs.CaughtLaws.{ask_of, all_append, attempt_by, held_is,
 use Rattle.lt_runner.proofs.DueLaws.{due_more, due_events}
 use Rattle.lt_runner.proofs.DueTurnLaws.{IsLineMove, more_after, due_answered, due_locked}
 
-eq_of : (a b : ℕ) → (a == b) ≡ true → a ≡ b
+pub eq_of : (a b : ℕ) → (a == b) ≡ true → a ≡ b
 eq_of a b e = grind (arith, nat_tests)
 
-differ : (a b : ℕ) → (a == b) ≡ false → a ≢ b
+pub differ : (a b : ℕ) → (a == b) ≡ false → a ≢ b
 differ a b e same = let k : false ≡ true = sym e ∙ eq-eqb a b same in cc
 
 -- The receipts of a line's move: what is granted is to be given back.
@@ -324,7 +324,7 @@ due_takes setting txns game turn line of_game due tree =
         (subst (λ (t : Turn). OverlapsOne range (due_in tree t)) of_game.there (subst (λ (n : ℕ). OverlapsOne range (due_at setting game tree n)) (eq_of owner turn.txn e) some)))
     same owner range false e some = subst (λ (t : Turn). OverlapsOne range (due_in tree t)) (sym (turn_of_other setting owner new game.turns (differ owner turn.txn e))) some
 
-all_fresh : (count tree : ℕ) → get_or (replicate count fresh) tree fresh ≡ fresh
+pub all_fresh : (count tree : ℕ) → get_or (replicate count fresh) tree fresh ≡ fresh
 all_fresh zero tree = refl
 all_fresh (suc n) zero = refl
 all_fresh (suc n) (suc tree) = all_fresh n tree

@@ -1,10 +1,9 @@
 -- Each pair of a transaction overlaps a range that it is to give back, whatever others do between its moves.
-use Rattle.std.proofs.Common.{◌≡◌, ◌≢◌, ◌⊎◌, ℕ, zero, suc, ◌+◌, ◌<◌, ◌≤◌, List, [], ◌∷◌, ◌++◌, Bool}
+use Rattle.std.proofs.Common.{◌≡◌, ◌⊎◌, ℕ, zero, suc, ◌+◌, ◌<◌, ◌≤◌, List, [], ◌∷◌, ◌++◌, Bool}
 use Rattle.std.proofs.Common.{true, false, ◌==◌, ◌||◌, map, nat_cmp, not, inl, inr, if◌then◌else◌, IsTrue, Option, Some, None, is_some}
-use Rattle.std.proofs.Common.{length, get_or, replicate, refl, sym, ap, subst}
+use Rattle.std.proofs.Common.{length, get_or, refl, sym, ap, subst}
 use Rattle.std.proofs.Common.{◌∙◌, arith, eq-eqb, append_assoc, append-nil, get_or-set_same, get_or-set_other}
 use Rattle.std.specs.List.{AllByRecursion, flat_map}
-use Rattle.std.proofs.lemmas.Bool.Decides.{nat_tests}
 use Rattle.lt_ranges.specs.Interval.{Interval, overlap, whole}
 use Rattle.lt_seq.specs.declared.event.Deed.{Deed}
 use Rattle.lt_seq.specs.declared.event.Deed.TheVariants.{Ask, Free, Who, Join}
@@ -47,14 +46,9 @@ use Rattle.lt_runner.proofs.SteadyLaws.{after_txn}
 use Rattle.lt_runner.proofs.GrowLaws.{PairsAt}
 use Rattle.lt_runner.proofs.DueLaws.{due_more, due_events, legal_next}
 use Rattle.lt_runner.proofs.DueTurnLaws.{IsLineMove, more_after, due_answered, due_locked, overlaps_whole}
-use Rattle.lt_runner.proofs.DueGameLaws.{after_free_due, not_overlapping}
+use Rattle.lt_runner.proofs.DueGameLaws.{eq_of, differ, after_free_due, not_overlapping, all_fresh}
+use Rattle.lt_runner.proofs.RetriesLaws.{numbers_same}
 use Rattle.lt_runner.proofs.StandingLaws.{seats_stand, line_goes, free_ended, steady_move, steady_opening}
-
-eq_of : (a b : ℕ) → (a == b) ≡ true → a ≡ b
-eq_of a b e = grind (arith, nat_tests)
-
-differ : (a b : ℕ) → (a == b) ≡ false → a ≢ b
-differ a b e same = let k : false ≡ true = sym e ∙ eq-eqb a b same in cc
 
 -- What is to be given back: by one transaction these, by any other anything.
 abbrev pub due_of : ℕ → Turn → ℕ → ℕ → List Interval
@@ -517,11 +511,6 @@ walk setting history txn zero before (e ∷ es) place stage ps ms few legal play
 walk setting history txn (suc fuel) before es place stage ps ms few legal played steady own now all due =
     walk_on setting history txn fuel (walk setting history txn fuel) before es place stage ps ms few legal played steady own now all due
 
-all_fresh : (count tree : ℕ) → get_or (replicate count fresh) tree fresh ≡ fresh
-all_fresh zero tree = refl
-all_fresh (suc n) zero = refl
-all_fresh (suc n) (suc tree) = all_fresh n tree
-
 owns_due : (txn : ℕ) (turn : Turn) (tree : ℕ) (pairs : List Pair) → AreDue (due_of txn turn tree) pairs →
     AllByRecursion (λ p. p.owner ≡ txn → OverlapsOne p.range (due_in tree turn)) pairs
 owns_due txn turn tree [] due = tt
@@ -637,10 +626,6 @@ both_stood : (setting : Setting) (searches : List Search) (lines : List Line) (h
 both_stood setting searches lines history [] stand over = tt
 both_stood setting searches lines history (s ∷ ss) stand over = ((stand.0, over.0), both_stood setting searches lines history ss stand.1 over.1)
 
-numbers_of : (seats : List Seat) → map (λ (t : Turn). t.txn) (turns_of seats) ≡ map (λ (s : Seat). s.turn.txn) seats
-numbers_of [] = refl
-numbers_of (s ∷ ss) = ap (λ (ns : List ℕ). s.turn.txn ∷ ns) (numbers_of ss)
-
 pub waiting_own_all : (setting : Setting) (searches : List Search) (lines : List Line) (history : List Event) (seats : List Seat) →
     AreFitDeeds setting lines → IsStrictlySortedBy nat_cmp (txns_of lines) →
     AllStand true setting searches lines history seats → AllWaitOrAreOver seats →
@@ -648,7 +633,7 @@ pub waiting_own_all : (setting : Setting) (searches : List Search) (lines : List
     × OwnersWait setting (game_at history (turns_of seats) false)
 waiting_own_all setting searches lines history seats fit sorted all over = (
   record {
-    sorted = subst (IsStrictlySortedBy nat_cmp) (sym (numbers_of seats
+    sorted = subst (IsStrictlySortedBy nat_cmp) (sym (numbers_same seats
         ∙ all.numbers)) sorted;
     numbers = refl;
     steady = all_steady setting searches lines history seats fit all.stand;

@@ -35,7 +35,7 @@ use Rattle.lt_runner.proofs.ComeLaws.{come_more, come_on}
 use Rattle.lt_runner.proofs.SteadyLaws.{after_txn}
 use Rattle.lt_runner.proofs.AnswerLaws.{joined_is, asks_move, stops_move, leaves_move, ends_move, grows_move, escalates_move, frees_move}
 
-all_append : (P : Receipt → Type 0) (xs ys : List Receipt) → AllByRecursion P xs → AllByRecursion P ys → AllByRecursion P (xs ++ ys)
+pub all_append : (P : Receipt → Type 0) (xs ys : List Receipt) → AllByRecursion P xs → AllByRecursion P ys → AllByRecursion P (xs ++ ys)
 all_append P [] ys all rest = rest
 all_append P (x ∷ xs) ys all rest = (all.0, all_append P xs ys all.1 rest)
 

@@ -61,7 +61,7 @@ not_ready turn held = ap (λ (w : Bool). is_none turn.outcome && not w) held ∙
     by_none false = refl
 
 -- one that waits has not ended
-goes_on : (setting : Setting) (turn : Turn) → IsSteady setting turn → turn.waits ≡ true → is_some turn.outcome ≡ false
+pub goes_on : (setting : Setting) (turn : Turn) → IsSteady setting turn → turn.waits ≡ true → is_some turn.outcome ≡ false
 goes_on setting turn steady held = by_outcome (is_some turn.outcome) refl
   where
     by_outcome : (b : Bool) → is_some turn.outcome ≡ b → is_some turn.outcome ≡ false
@@ -173,7 +173,7 @@ listed_same (s ∷ ss) all =
     ap (λ (b : Bool). cons_option (if b then next_wish s.turn.txn s.turn.lines else None) (listed_in ss)) all.0
     ∙ ap (cons_option (if s.turn.waits then next_wish s.turn.txn s.turn.lines else None)) (listed_same ss all.1)
 
-numbers_same : (seats : List Seat) → map (λ (t : Turn). t.txn) (turns_of seats) ≡ map (λ (s : Seat). s.turn.txn) seats
+pub numbers_same : (seats : List Seat) → map (λ (t : Turn). t.txn) (turns_of seats) ≡ map (λ (s : Seat). s.turn.txn) seats
 numbers_same [] = refl
 numbers_same (s ∷ ss) = ap (λ (ns : List ℕ). s.turn.txn ∷ ns) (numbers_same ss)
 

@@ -27,6 +27,7 @@ use Rattle.lt_runner.specs.Steps.{IsSteady, IsFitLine, AreRanges}
 use Rattle.lt_runner.specs.Standing.{AreFitDeeds, IsStanding}
 use Rattle.lt_runner.proofs.SteadyLaws.{steady_after, steady_freed}
 use Rattle.lt_runner.proofs.StuckLaws.{lock_wish}
+use Rattle.lt_runner.proofs.RetriesLaws.{goes_on}
 
 -- Its turn.
 
@@ -258,13 +259,6 @@ seats_stand setting searches lines history seat fit come =
       last = subst HasEnd come.here (end_moves true setting history opening come.moves come.played (λ goes. last_opening seat.turn.txn lines));
     }
 
-goes_where_waits : (setting : Setting) (turn : Turn) → IsSteady setting turn → turn.waits ≡ true → is_some turn.outcome ≡ false
-goes_where_waits setting turn steady held = by_outcome (is_some turn.outcome) refl
-  where
-    by_outcome : (b : Bool) → is_some turn.outcome ≡ b → is_some turn.outcome ≡ false
-    by_outcome true e = absurd (let k : true ≡ false = sym held ∙ steady.still e in cc)
-    by_outcome false e = e
-
 lock_not_last : (deed : LineDeed) → IsTrue (is_lock deed) → is_last deed ≡ false
 lock_not_last (Try tree range) e = absurd (let k : false ≡ true = e in cc)
 lock_not_last (Lock tree range) e = refl
@@ -283,4 +277,4 @@ pub waiters_have_lines : (setting : Setting) (turn : Turn) → IsStanding settin
     IsAtLock turn.lines × (2 ≤ length turn.lines) × ((wish : Wish) × (next_wish turn.txn turn.lines ≡ Some wish))
 waiters_have_lines setting turn stands held =
     let lock = stands.steady.held held in
-    (lock, two_lines turn.lines lock (stands.last (goes_where_waits setting turn stands.steady held)), lock_wish turn.txn turn.lines lock)
+    (lock, two_lines turn.lines lock (stands.last (goes_on setting turn stands.steady held)), lock_wish turn.txn turn.lines lock)

@@ -108,13 +108,13 @@ granted_is turns turn line lines wish wishes buffered at =
     ∙ ap (λ (ls : List Line). granted_to wish.tree wish.range buffered (record turn { lines = ls }))
     (ap (λ (d : LineDeed). record line { deed = d } ∷ lines) (sym at.lock) ∙ sym at.lines_are)
 
-same_reply : (d : Deed) → reply_in d ≡ reply_of d
+pub same_reply : (d : Deed) → reply_in d ≡ reply_of d
 same_reply (Ask tree range reply) = refl
 same_reply (Free tree range first count) = refl
 same_reply (Who tree range named owners) = refl
 same_reply (Join tree before after) = refl
 
-answers_of : (setting : Setting) (bar txn : ℕ) (old new : PassView) (turn : Turn) (deed : Deed) (result : Result Receipt Fault) → bar ≡ bar_of setting turn → txn ≡ turn.txn →
+pub answers_of : (setting : Setting) (bar txn : ℕ) (old new : PassView) (turn : Turn) (deed : Deed) (result : Result Receipt Fault) → bar ≡ bar_of setting turn → txn ≡ turn.txn →
     AskAnswers setting bar old new txn deed result → AskAnswers setting (bar_of setting turn) old new turn.txn deed result
 answers_of setting bar txn old new turn deed result same own answers =
     subst (λ (n : ℕ). AskAnswers setting (bar_of setting turn) old new n deed result) own (subst (λ (b : ℕ). AskAnswers setting b old new txn deed result) same answers)
@@ -130,7 +130,7 @@ by_buffer : (tree : ℕ) (wish : Wish) (turn : Turn) (buffered : Bool) → locke
 by_buffer tree wish turn true = refl
 by_buffer tree wish turn false = refl
 
-not_held : (buffered : Bool) → is_held (if buffered then Buffered else Granted) ≡ false
+pub not_held : (buffered : Bool) → is_held (if buffered then Buffered else Granted) ≡ false
 not_held true = refl
 not_held false = refl
 

@@ -1,11 +1,10 @@
 -- What a start or a retry makes of a transaction that waits, whatever others do meanwhile.
 use Rattle.std.proofs.Common.{◌≡◌, ℕ, ◌+◌, ◌≤◌, List, [], ◌∷◌, ◌++◌, Bool, true, false, ◌&&◌}
-use Rattle.std.proofs.Common.{◌||◌, ◌==◌, not, if◌then◌else◌, IsTrue, Option, Some, None, Result, Ok, Err, zero, length}
-use Rattle.std.proofs.Common.{inl, inr, refl, sym, ap, subst, ◌∙◌, arith, append_assoc, append-nil, length-append}
+use Rattle.std.proofs.Common.{◌||◌, ◌==◌, not, if◌then◌else◌, IsTrue, Option, Some, None, Result, Ok, Err, zero}
+use Rattle.std.proofs.Common.{inl, inr, refl, sym, ap, subst, ◌∙◌, arith, append_assoc, append-nil}
 use Rattle.std.specs.List.{AllByRecursion, find}
 use Rattle.std.proofs.lemmas.List.{map-append}
 use Rattle.lt_seq.specs.declared.event.Deed.{Deed}
-use Rattle.lt_seq.specs.declared.event.Deed.TheVariants.{Ask, Free, Who, Join}
 use Rattle.lt_seq.specs.declared.event.Reply.{Reply}
 use Rattle.lt_seq.specs.declared.event.Reply.TheVariants.{Granted, Buffered, HeldBy}
 use Rattle.lt_seq.specs.declared.event.Event.{Event}
@@ -13,7 +12,6 @@ use Rattle.lt_seq.specs.declared.event.Receipt.{Receipt}
 use Rattle.lt_seq.specs.declared.fault.Fault.{Fault}
 use Rattle.lt_seq.specs.declared.fault.Fault.TheVariants.{OutOfMemory, Busy, HistoryFull, OutOfLocks}
 use Rattle.lt_seq.specs.Table.{Setting}
-use Rattle.lt_seq.specs.History.{IsFront}
 use Rattle.lt_seq.specs.Questions.{question, events_of, named_by, named_in}
 use Rattle.lt_seq.specs.Yard.{PassView, HasAll, Goes, IsSound, Happens, AskAnswers, AreJoined, IsAsked, place_after, event_after}
 use Rattle.lt_seq.proofs.HistoryLaws.{front_itself}
@@ -36,33 +34,21 @@ use Rattle.lt_runner.specs.Turn.{Move, asks, waits, stops, turn_after, reply_in,
 use Rattle.lt_runner.specs.Attempt.{behind, bar_of}
 use Rattle.lt_runner.specs.Plays.{Past, is_ask, is_lock, is_held, line_question, next_wish, AreWishes, NeedsNoSearch, IsMove}
 use Rattle.lt_runner.specs.Seats.{idle, granted_at}
-use Rattle.lt_runner.specs.Played.{AreInside, Search, IsAmong, MovesBy}
+use Rattle.lt_runner.specs.Played.{Search, IsAmong, MovesBy}
 use Rattle.lt_runner.specs.PlaysOn.{PlaysOn}
 use Rattle.lt_runner.specs.StartsAlone.{MayStartAtOnce}
 use Rattle.lt_runner.specs.StartsOn.{IsAmongWishes, SearchesOn, StartsOn}
 use Rattle.lt_runner.proofs.LockMoveLaws.{HasLock, has_lock}
-use Rattle.lt_runner.proofs.PlayLaws.{list_inside}
-use Rattle.lt_runner.proofs.PlaysOnLaws.{plays_move}
+use Rattle.lt_runner.proofs.PlaysOnLaws.{plays_move, all_append}
+use Rattle.lt_runner.proofs.StartedLaws.{same_reply, answers_of, not_held}
 use Rattle.lt_runner.specs.Calls.{Joining}
-use Rattle.lt_runner.proofs.AnswerLaws.{IsPlaced, HasSearched, searched_seat, joined_is, happened, attempt_found, waits_move, stops_move}
+use Rattle.lt_runner.proofs.AnswerLaws.{front_longer, inside_on, IsPlaced, HasSearched, searched_seat, joined_is, happened, attempt_found, waits_move, stops_move}
 
 -- Lists and fronts.
-
-all_append : (P : Receipt → Type 0) (xs ys : List Receipt) → AllByRecursion P xs → AllByRecursion P ys → AllByRecursion P (xs ++ ys)
-all_append P [] ys all rest = rest
-all_append P (x ∷ xs) ys all rest = (all.0, all_append P xs ys all.1 rest)
 
 behind_append : (since : ℕ) (xs ys : List Receipt) → behind since (xs ++ ys) ≡ behind (behind since xs) ys
 behind_append since [] ys = refl
 behind_append since (x ∷ xs) ys = behind_append (x.place + 1) xs ys
-
-front_longer : (setting : Setting) (a b : List Event) → IsFront a b → place_after setting a ≤ place_after setting b
-front_longer setting a b (more, is) = omega (arith, ap length is, length-append a more)
-
-inside_on : (setting : Setting) (a b : List Event) (receipts : List Receipt) → IsFront a b → AreInside setting a receipts →
-    AreInside setting b receipts
-inside_on setting a b receipts (more, is) inside = subst (λ (es : List Event). AreInside setting es receipts) (sym is)
-    (list_inside setting a more receipts inside)
 
 -- The search.
 
@@ -104,12 +90,6 @@ made_is setting old new txn (r ∷ rs) one sound =
 
 -- Lock lines.
 
-same_reply : (d : Deed) → reply_in d ≡ reply_of d
-same_reply (Ask tree range reply) = refl
-same_reply (Free tree range first count) = refl
-same_reply (Who tree range named owners) = refl
-same_reply (Join tree before after) = refl
-
 -- an ask at a lock line, with the walk that a search behind it found
 at_lock : (turn : Turn) (wish : Wish) (reply : Reply) (walk : Option (List Edge)) (at : HasLock turn.txn wish turn.lines) →
     asked_at turn.lines reply walk turn ≡ locked_by wish.tree wish.range reply walk turn
@@ -128,23 +108,12 @@ granted_is turn wish buffered at =
 asks_it : (turn : Turn) (wish : Wish) (at : HasLock turn.txn wish turn.lines) → line_question at.line.deed ≡ Some (deed_for wish)
 asks_it turn wish at = ap line_question at.lock
 
-answers_of : (setting : Setting) (bar txn : ℕ) (old new : PassView) (turn : Turn) (deed : Deed) (result : Result Receipt Fault) →
-    bar ≡ bar_of setting turn → txn ≡ turn.txn →
-    AskAnswers setting bar old new txn deed result → AskAnswers setting (bar_of setting turn) old new turn.txn deed result
-answers_of setting bar txn old new turn deed result same own answers =
-    subst (λ (n : ℕ). AskAnswers setting (bar_of setting turn) old new n deed result) own
-    (subst (λ (b : ℕ). AskAnswers setting b old new txn deed result) same answers)
-
 -- It was granted.
 
 by_buffer : (wish : Wish) (turn : Turn) (buffered : Bool) →
     locked_by wish.tree wish.range (if buffered then Buffered else Granted) None turn ≡ granted_to wish.tree wish.range buffered turn
 by_buffer wish turn true = refl
 by_buffer wish turn false = refl
-
-not_held : (buffered : Bool) → is_held (if buffered then Buffered else Granted) ≡ false
-not_held true = refl
-not_held false = refl
 
 needs_none : (past : Past) (deed : LineDeed) (reply : Reply) → is_held reply ≡ false → NeedsNoSearch true past deed reply
 needs_none past deed reply free = by_tests (is_lock deed) (is_held reply) free
