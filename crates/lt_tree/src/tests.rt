@@ -1,7 +1,7 @@
 //! Searches of an empty tree, on one thread.
-ghost use Rattle.std.specs.Prelude.{◌≡◌, ◌<◌, ◌≤◌, IfOk, IfSome};
+ghost use Rattle.std.specs.Prelude.{◌≡◌, IfOk, IfSome, true};
 ghost use Rattle.lt_seq.specs.Yard.{IsPlan};
-ghost use Rattle.lt_rows.specs.Handles.{knows, IsPassOf};
+ghost use Rattle.lt_rows.specs.Handles.{knows, IsPassOf, IsSamePass};
 ghost use Rattle.lt_tree.specs.States.{HoldsNone};
 
 use crate::prepare::try_prepare;
@@ -41,6 +41,17 @@ fn both(alloc: Global, plan: &YardPlan) -> Result<Option<(RowTable, RowPass, Row
     let note = table.share(&mut one, 1);
     table.learn(&mut two, note);
     Ok(Some((table, one, two)))
+}
+
+/// Whether an event may come, and take a row.
+fn is_licensed(table: &RowTable, pass: &mut RowPass) -> bool
+    requires of { IsPassOf table.now pass.old }
+    ensures of { IsPassOf table.now pass.new × IsSamePass pass.old pass.new }
+    ensures licensed { result ≡ true → (knows pass.new).licensed ≡ true }
+    ensures same { (knows pass.new).held ≡ (knows pass.old).held }
+{
+    let look = table.look(pass);
+    look.place < 1 << 39 && look.used < table.plan().limit
 }
 
 #[test]
@@ -108,8 +119,6 @@ fn a_search_takes_the_pools_anchor_and_gives_it_back(rt: HostRuntime) -> Result<
         assert!(rt; false, "no passes");
         return Ok(());
     };
-    let mut one = one;
-    let _ = table.look(&mut one);
     let Ok(first) = try_prepare(&table, one, 0, 0) else {
         assert!(rt; false, "the anchor is held");
         return Ok(());
@@ -130,6 +139,40 @@ fn a_search_takes_the_pools_anchor_and_gives_it_back(rt: HostRuntime) -> Result<
         return Ok(());
     };
     let _two = second.cancel();
+    let _one = kept.release();
+    Ok(())
+}
+
+#[test]
+fn a_licensed_search_takes_the_pools_first_row(rt: HostRuntime) -> Result<(), Fail> {
+    let Some((table, one, _two)) = both(rt.alloc(), &plan())? else {
+        assert!(rt; false, "no passes");
+        return Ok(());
+    };
+    let mut one = one;
+    if !is_licensed(&table, &mut one) {
+        assert!(rt; false, "there is no room");
+        return Ok(());
+    }
+    let Ok(first) = try_prepare(&table, one, 0, 0) else {
+        assert!(rt; false, "the anchor is held");
+        return Ok(());
+    };
+    if first.anchor().buffer_txn != 0 {
+        assert!(rt; false, "the tree is a buffer");
+        return Ok(());
+    }
+    let Ok(kept) = first.keep_anchor(rt.alloc(), &KeyRange::whole()) else {
+        assert!(rt; false, "the search is refused");
+        return Ok(());
+    };
+    let mut kept = kept;
+    let Ok(row) = kept.vacant() else {
+        assert!(rt; false, "the pool is held");
+        return Ok(());
+    };
+    assert!(rt; row == 3);
+    assert!(rt; kept.image(row).left() == 5);
     let _one = kept.release();
     Ok(())
 }
