@@ -16,3 +16,4 @@ pub mod RowsInPlace
 pub mod Relays
 pub mod FreedParts
 pub mod FreePlans
+pub mod GrownServed

@@ -36,7 +36,7 @@ none_of : (xs : List ℕ) (q : ℕ) → (0 < times q xs → ⊥) → times q xs 
 none_of xs q f = dite (ℕ_discrete (times q xs) 0) (λ e. e) (λ ne. absurd (f (omega arith)))
 
 -- one row in another's place
-numbers_same : (xs : List PartRow) (a b : PartRow) (ys : List PartRow) → a.row ≡ b.row → numbers (xs ++ a ∷ ys) ≡ numbers (xs ++ b ∷ ys)
+pub numbers_same : (xs : List PartRow) (a b : PartRow) (ys : List PartRow) → a.row ≡ b.row → numbers (xs ++ a ∷ ys) ≡ numbers (xs ++ b ∷ ys)
 numbers_same [] a b ys e = ap (λ (n : ℕ). n ∷ numbers ys) e
 numbers_same (x ∷ xs) a b ys e = ap (λ (ns : List ℕ). x.row ∷ ns) (numbers_same xs a b ys e)
 

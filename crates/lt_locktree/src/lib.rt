@@ -10,7 +10,7 @@ mod planning;
 mod questions;
 
 pub use asking::Asking;
-pub use growing::plan_grown;
+pub use growing::{grow_row, plan_grown};
 pub use owners::owners_of;
 pub use planning::plan_rows;
 pub use questions::{ask_who, refuse_ask};
