@@ -4,6 +4,7 @@
 mod asking;
 mod drawing;
 mod growing;
+mod inserting;
 pub mod laws;
 mod owners;
 mod planning;
@@ -11,6 +12,7 @@ mod questions;
 
 pub use asking::Asking;
 pub use growing::{grow_row, plan_grown};
+pub use inserting::plan_put_in;
 pub use owners::owners_of;
 pub use planning::plan_rows;
 pub use questions::{ask_who, refuse_ask};
