@@ -17,3 +17,5 @@ pub mod Relays
 pub mod FreedParts
 pub mod FreePlans
 pub mod GrownServed
+pub mod ChainLaws
+pub mod LeavingLaws

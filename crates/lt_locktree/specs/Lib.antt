@@ -9,3 +9,4 @@ pub mod LawsOfGrants
 pub mod LawsOfPlans
 pub mod LawsOfFrees
 pub mod LawsOfFreePlans
+pub mod Leavings

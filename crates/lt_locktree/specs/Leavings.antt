@@ -1,0 +1,18 @@
+-- A part from which a transaction's rows are left out.
+use Rattle.std.specs.Prelude.{◌≡◌, ℕ, ◌<◌, List, length, not, slice_index}
+use Rattle.lt_ranges.specs.Interval.{Interval}
+use Rattle.lt_forest.specs.declared.part.PartRow.{PartRow}
+use Rattle.lt_forest.specs.Items.{LeavesOut}
+use Rattle.lt_locktree.specs.declared.leaving.LeftOut.{LeftOut}
+use Rattle.lt_locktree.specs.declared.leaving.Leaving.{Leaving}
+use Rattle.lt_locktree.specs.declared.leaving.Leaving.TheVariants.{Left, Meets}
+use Rattle.lt_locktree.specs.LawsOfFrees.{goes, freed_rows}
+
+-- the rows that stay, with what hangs between them, and those that go
+pub record IsLeftOut (txn : ℕ) (range : Interval) (rows : List PartRow) (hangs : List ℕ) (left : LeftOut) : Type 0 where
+  pub left_out : LeavesOut (λ r. not (goes txn range r)) rows hangs left.part.rows.items left.part.hangs.items
+  pub gone_are : left.gone.items ≡ freed_rows txn range rows
+
+abbrev pub IsLeaving : ℕ → Interval → List PartRow → List ℕ → Leaving → Type 0
+IsLeaving txn range rows hangs (Left left) = IsLeftOut txn range rows hangs left
+IsLeaving txn range rows hangs (Meets at) = (at < length hangs) × (0 < slice_index hangs at)
