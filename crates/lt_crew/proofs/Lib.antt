@@ -5,6 +5,7 @@ pub mod StandLaws
 pub mod MovedLaws
 pub mod CrewRunLaws
 pub mod PairLaws
+pub mod SumLaws
 pub mod WorkerLaws
 pub mod ResultLaws
 pub mod StillLaws

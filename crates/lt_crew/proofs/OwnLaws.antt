@@ -80,7 +80,7 @@ each_by_own passes dealt place (e ∷ es) there each = (
     later pass false all = all
 
 -- the passes of a legal history are the plan's, also of its end
-all_passes : (setting : Setting) (es : List Event) (trees : List TreeState) → IsLegalFrom setting trees es →
+pub all_passes : (setting : Setting) (es : List Event) (trees : List TreeState) → IsLegalFrom setting trees es →
     AllByRecursion (λ e. e.pass < setting.plan.passes) es
 all_passes setting [] trees legal = tt
 all_passes setting (e ∷ es) trees legal = (legal.0.pass, all_passes setting es (step setting trees e) legal.1)

@@ -13,9 +13,10 @@ use Rattle.lt_seq.proofs.HistoryLaws.{front_on, front_itself}
 use Rattle.lt_runner.specs.TurnView.{Seat}
 use Rattle.lt_runner.specs.PlaysOn.{IsFit}
 use Rattle.lt_crew.specs.declared.worker.Worker.{Worker}
-use Rattle.lt_crew.specs.Crew.{PlaysAll, IsPlayedOut, Worked, IsRound, AreDistinct, numbers_in}
+use Rattle.lt_crew.specs.Crew.{PlaysAll, SpendsAll, work_all, work_of, IsPlayedOut, Worked, IsRound, AreDistinct, numbers_in}
 use Rattle.lt_crew.specs.Workers.{UpTo, EachPair, AreOut, AllBelow, IsTold, IsLent, IsTaken, IsResting, HasWorked, AreInOrder, IsSeenBy, HasTaken, HasPlayed, seats_by}
 use Rattle.lt_crew.proofs.RoundLaws.{worked_by, worked_none}
+use Rattle.lt_crew.proofs.SumLaws.{spent_by}
 use Rattle.lt_crew.proofs.PairLaws.{below_set, below_weaker}
 
 -- two fronts of each other are one
@@ -114,6 +115,7 @@ module _ {P : Type 0} (origin : P → Origin) (view : P → PassView) (place : O
         pass = told.pass ∙ (λ i. record (taken.pass i) { front = history });
         sound = told.sound;
         fit = subst (λ (s : Vec Seat). All (IsFit place.setting) s.items) (sym seats) (worked.fit memory);
+        spends = subst (λ (s : Vec Seat). SpendsAll place.setting (view a.pass) (view b.pass) a.turns.items s.items) (sym seats) (worked.spends memory);
         out = subst (λ (s : Vec Seat). EachPair IsPlayedOut a.turns.items s.items) (sym seats) (worked.out memory);
         memory = told.memory ∙ taken.memory ∙ memory;
       }
@@ -244,3 +246,41 @@ module _ {P : Type 0} (origin : P → Origin) (view : P → PassView) (place : O
       λ k d h. subst (λ (s : Vec Seat). EachPair IsPlayedOut s.items (get_or new k d).turns.items) (lends.1 k d h).turns
           (plays.1 k d (there k h)).out,
     )
+
+    -- what one pass made
+    spent_at : (me now : PassView) → now.mine ≡ me.mine → me.number ≡ 0 → now.number ≡ me.number → me.front ≡ before → now.front ≡ history →
+        IsSound place.setting me → IsSound place.setting now →
+        place.setting.plan.passes ≡ length old + 1 → (pass : ℕ) → pass < place.setting.plan.passes →
+        length (calls_from place.setting.plan.first pass history) + work_all place.setting (seats_by new pass)
+        ≤ length (calls_from place.setting.plan.first pass before) + work_all place.setting (seats_by old pass)
+    spent_at me now mine zeroth same began ended sound sound_now count zero inside =
+        let is : calls_from place.setting.plan.first 0 history ≡ calls_from place.setting.plan.first 0 before =
+            ap (calls_from place.setting.plan.first 0) (sym ended) ∙ ap (λ n. calls_from place.setting.plan.first n now.front) (sym (same ∙ zeroth)) ∙ sym sound_now.mine ∙ mine ∙ sound.mine
+            ∙ ap (λ n. calls_from place.setting.plan.first n me.front) zeroth ∙ ap (calls_from place.setting.plan.first 0) began in
+        omega (arith, ap length is)
+    spent_at me now mine zeroth same began ended sound sound_now count (suc k) inside =
+        let h : k < length old = omega (arith, inside, count) in
+        let d = element old k h in
+        let w = get_or old k d in
+        let l = lends.1 k d h in
+        let p = plays.1 k d (there k h) in
+        let r = resting k d h in
+        let first = place.setting.plan.first in
+        let number : (view w.pass).number ≡ suc k = ordered.numbers k d h ∙ omega arith in
+        let lent_number : (view (get_or lent k d).pass).number ≡ (view w.pass).number = ap (λ (q : PassView). q.number) l.pass in
+        let new_number : (view (get_or new k d).pass).number ≡ suc k = ap (λ (q : PassView). q.number) p.pass ∙ p.plays.goes.number ∙ lent_number ∙ number in
+        let was : (view (get_or lent k d).pass).mine ≡ calls_from first (suc k) before =
+            ap (λ (q : PassView). q.mine) l.pass ∙ r.sound.mine ∙ ap (λ n. calls_from first n (view w.pass).front) number ∙ ap (calls_from first (suc k)) r.seen in
+        let is : p.between.mine ≡ calls_from first (suc k) history =
+            sym (ap (λ (q : PassView). q.mine) p.pass) ∙ p.sound.mine ∙ ap (λ n. calls_from first n (view (get_or new k d).pass).front) new_number ∙ ap (calls_from first (suc k)) (ap (λ (q : PassView). q.front) p.pass) in
+        let were : seats_by old (suc k) ≡ (get_or lent k d).turns.items = seats_at old k d h ∙ sym (ap (λ (s : Vec Seat). s.items) l.turns) in
+        let are : seats_by new (suc k) ≡ (get_or new k d).turns.items = seats_at new k d (there_too k h) in
+        omega (arith, p.spends, ap length was, ap length is, ap (work_all place.setting) were, ap (work_all place.setting) are)
+
+    -- no more events than the work that was done
+    pub spent_in : (me now : PassView) → now.mine ≡ me.mine → me.number ≡ 0 → now.number ≡ me.number → me.front ≡ before → now.front ≡ history →
+        IsSound place.setting me → IsSound place.setting now → place.setting.plan.passes ≡ length old + 1 →
+        length history + work_of place.setting (seats_by new) ≤ length before + work_of place.setting (seats_by old)
+    spent_in me now mine zeroth same began ended sound sound_now count =
+        spent_by place.setting before history (seats_by old) (seats_by new) (subst (IsLegal place.setting) began sound.legal) (subst (IsLegal place.setting) ended sound_now.legal)
+        (spent_at me now mine zeroth same began ended sound sound_now count)

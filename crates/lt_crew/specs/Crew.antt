@@ -1,5 +1,5 @@
 -- Transactions that the passes of a crew play side by side.
-use Rattle.std.specs.Prelude.{zero, suc, ◌≡◌, ◌⊎◌, ◌==◌, ℕ, ◌<◌, ◌≤◌, List, []}
+use Rattle.std.specs.Prelude.{zero, suc, ◌≡◌, ◌⊎◌, ◌==◌, ℕ, ◌<◌, ◌≤◌, ◌+◌, List, []}
 use Rattle.std.specs.Prelude.{◌∷◌, ◌++◌, map, filter, length, slice_index_or, is_some, true, false, IsTrue}
 use Rattle.std.specs.List.{AllByRecursion}
 use Rattle.lt_ranges.specs.Numbers.{is_in}
@@ -11,6 +11,7 @@ use Rattle.lt_seq.specs.Yard.{PassView, Goes}
 use Rattle.lt_runner.specs.TurnView.{Seat}
 use Rattle.lt_runner.specs.Played.{Search}
 use Rattle.lt_runner.specs.PlaysOn.{Brings}
+use Rattle.lt_runner.specs.Work.{work}
 
 -- the receipts of one transaction among these
 abbrev pub own_in : ℕ → List Receipt → List Receipt
@@ -105,3 +106,23 @@ pub record IsRound (setting : Setting) (found : List Search) (before history : L
 abbrev pub only : Seat → ℕ → List Seat
 only seat zero = seat ∷ []
 only seat (suc pass) = []
+
+-- What is left.
+
+-- how many events all of them may still make but for those of starts and retries
+abbrev pub work_all : Setting → List Seat → ℕ
+work_all setting [] = 0
+work_all setting (s ∷ ss) = work setting s + work_all setting ss
+
+-- the events that a pass made are paid for by what was left of its transactions
+abbrev pub SpendsAll : Setting → PassView → PassView → List Seat → List Seat → Type 0
+SpendsAll setting old new were are = length new.mine + work_all setting are ≤ length old.mine + work_all setting were
+
+-- the sum over so many passes
+abbrev pub sum_to : (ℕ → ℕ) → ℕ → ℕ
+sum_to f zero = 0
+sum_to f (suc n) = sum_to f n + f n
+
+-- all that is left where the passes have these transactions
+abbrev pub work_of : Setting → (ℕ → List Seat) → ℕ
+work_of setting seats = sum_to (λ pass. work_all setting (seats pass)) setting.plan.passes

@@ -8,7 +8,7 @@ use Rattle.lt_seq.specs.History.{IsFront}
 use Rattle.lt_runner.specs.TurnView.{Seat}
 use Rattle.lt_runner.specs.PlaysOn.{IsFit, IsReady}
 use Rattle.lt_crew.specs.declared.worker.Worker.{Worker}
-use Rattle.lt_crew.specs.Crew.{PlaysAll, IsPlayedOut, AreDistinct, AreApart, numbers_in}
+use Rattle.lt_crew.specs.Crew.{PlaysAll, SpendsAll, IsPlayedOut, AreDistinct, AreApart, numbers_in}
 
 -- each element stands in a relation to the one that was at its place
 abbrev pub EachPair : {X : Type 0} → (X → X → Type 0) → List X → List X → Type 0
@@ -51,6 +51,7 @@ module _ {P : Type 0} (origin : P → Origin) (view : P → PassView) (place : O
     pub of : origin new.pass ≡ place
     pub fit : new.short ≡ false → All (IsFit place.setting) new.turns.items
     pub plays : new.short ≡ false → PlaysAll place.setting [] (view old.pass) (view new.pass) old.turns.items new.turns.items
+    pub spends : new.short ≡ false → SpendsAll place.setting (view old.pass) (view new.pass) old.turns.items new.turns.items
     pub out : new.short ≡ false → AreOut old new
 
   -- between two rounds: it has no right, and has seen the history
@@ -120,5 +121,6 @@ module _ {P : Type 0} (origin : P → Origin) (view : P → PassView) (place : O
     pub pass : view new.pass ≡ record between { rights = 0; front = history }
     pub sound : IsSound place.setting (view new.pass)
     pub fit : All (IsFit place.setting) new.turns.items
+    pub spends : SpendsAll place.setting (view old.pass) between old.turns.items new.turns.items
     pub out : AreOut old new
     pub memory : new.short ≡ false

@@ -4,7 +4,7 @@ ghost use Rattle.lt_seq.specs.Yard.{origin_of, Learns, IsSound};
 ghost use Rattle.lt_seq.specs.History.{IsFront};
 ghost use Rattle.lt_crew.specs.Workers.{IsManned, HasWorked, IsResting, IsLent, IsTaken, IsTold, HasTaken};
 ghost use Rattle.lt_crew.specs.Workers.{IsSeenBy, EachPair, AreOut, HasPlayed, IsCaller, AreInOrder, seats_by};
-ghost use Rattle.lt_crew.specs.Crew.{IsRound};
+ghost use Rattle.lt_crew.specs.Crew.{IsRound, work_of};
 
 use crate::gate::Gate;
 use crate::worker::{Worker, play};
@@ -201,6 +201,8 @@ pub fn round<R: Threads + Sync, Y: Yard, G: Gate>(
     ensures resting { OnOk result (All (IsResting Y.Pass.origin Y.Pass.view (origin_of (Y.identity yard.now) (Y.setting yard.now))
         (Y.Pass.view me.new).front) workers.new) }
     ensures out { OnOk result (EachPair AreOut workers.old workers.new) }
+    ensures spent { OnOk result (length (Y.Pass.view me.new).front + work_of (Y.setting yard.now) (seats_by workers.new)
+        ≤ length (Y.Pass.view me.old).front + work_of (Y.setting yard.now) (seats_by workers.old)) }
     ensures ordered { OnOk result (AreInOrder Y.Pass.view workers.new) }
     ensures round { OnOk result (IsRound (Y.setting yard.now) [] (Y.Pass.view me.old).front (Y.Pass.view me.new).front
         (seats_by workers.old) (seats_by workers.new)) }

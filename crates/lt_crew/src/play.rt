@@ -2,6 +2,7 @@
 ghost use Rattle.std.specs.Prelude.{◌≡◌, ◌≢◌, ◌⊎◌, ◌≤◌, length, [], OnOk, false, true, is_some, IsTrue, None};
 ghost use Rattle.lt_seq.specs.Yard.{origin_of};
 ghost use Rattle.lt_runner.specs.PlaysOn.{IsFit, IsReady, PlaysOn};
+ghost use Rattle.lt_runner.specs.Work.{Spends};
 ghost use Rattle.lt_crew.specs.Crew.{MayGo, IsStuck, IsOn, IsPlayedOut};
 
 use crate::gate::Gate;
@@ -27,6 +28,7 @@ fn play_once<Y: Yard>(yard: &Y, pass: &mut Y::Pass, turn: &mut Turn) -> Result<(
     ensures of { Y.Pass.origin pass.new ≡ origin_of (Y.identity yard.now) (Y.setting yard.now) }
     ensures fit { OnOk result (IsFit (Y.setting yard.now) turn.new) }
     ensures plays { OnOk result (PlaysOn (Y.setting yard.now) [] (Y.Pass.view pass.old) (Y.Pass.view pass.new) turn.old turn.new) }
+    ensures spends { OnOk result (Spends (Y.setting yard.now) (Y.Pass.view pass.old) (Y.Pass.view pass.new) turn.old turn.new) }
     ensures on { OnOk result (IsOn turn.old turn.new) }
 {
     let Err(fault) = turn.play(yard, pass) else {
@@ -51,6 +53,7 @@ fn play_lines<Y: Yard, G: Gate>(
     ensures of { Y.Pass.origin pass.new ≡ origin_of (Y.identity yard.now) (Y.setting yard.now) }
     ensures fit { OnOk result (IsFit (Y.setting yard.now) turn.new) }
     ensures plays { OnOk result (PlaysOn (Y.setting yard.now) [] (Y.Pass.view pass.old) (Y.Pass.view pass.new) turn.old turn.new) }
+    ensures spends { OnOk result (Spends (Y.setting yard.now) (Y.Pass.view pass.old) (Y.Pass.view pass.new) turn.old turn.new) }
     ensures lines { OnOk result (length turn.new.turn.lines ≤ length turn.old.turn.lines) }
     ensures stuck { OnOk result (IsStuck turn.old → turn.new ≡ turn.old) }
     ensures played { OnOk result (IsStuck turn.new ⊎ (turn.new.turn.lines ≡ [])) }
@@ -83,6 +86,7 @@ pub(crate) fn play_turn<Y: Yard, G: Gate>(
     ensures of { Y.Pass.origin pass.new ≡ origin_of (Y.identity yard.now) (Y.setting yard.now) }
     ensures fit { OnOk result (IsFit (Y.setting yard.now) turn.new) }
     ensures plays { OnOk result (PlaysOn (Y.setting yard.now) [] (Y.Pass.view pass.old) (Y.Pass.view pass.new) turn.old turn.new) }
+    ensures spends { OnOk result (Spends (Y.setting yard.now) (Y.Pass.view pass.old) (Y.Pass.view pass.new) turn.old turn.new) }
     ensures out { OnOk result (IsPlayedOut turn.old turn.new) }
 {
     play_lines(yard, pass, turn, gate)?;

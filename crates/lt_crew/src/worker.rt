@@ -3,7 +3,7 @@ ghost use Rattle.std.specs.Prelude.{◌≡◌, [], OnOk};
 ghost use Rattle.std.specs.List.{All};
 ghost use Rattle.lt_seq.specs.Yard.{origin_of};
 ghost use Rattle.lt_runner.specs.PlaysOn.{IsFit, IsReady};
-ghost use Rattle.lt_crew.specs.Crew.{PlaysAll, IsPlayedOut, AreDistinct};
+ghost use Rattle.lt_crew.specs.Crew.{PlaysAll, SpendsAll, IsPlayedOut, AreDistinct};
 ghost use Rattle.lt_crew.specs.Workers.{EachPair, IsManned, HasWorked};
 
 use crate::gate::Gate;
@@ -37,6 +37,7 @@ fn play_all<Y: Yard, G: Gate>(
     ensures of { Y.Pass.origin pass.new ≡ origin_of (Y.identity yard.now) (Y.setting yard.now) }
     ensures fit { OnOk result (All (IsFit (Y.setting yard.now)) turns.new) }
     ensures plays { OnOk result (PlaysAll (Y.setting yard.now) [] (Y.Pass.view pass.old) (Y.Pass.view pass.new) turns.old turns.new) }
+    ensures spends { OnOk result (SpendsAll (Y.setting yard.now) (Y.Pass.view pass.old) (Y.Pass.view pass.new) turns.old turns.new) }
     ensures out { OnOk result (EachPair IsPlayedOut turns.old turns.new) }
 {
     for turn in turns.iter_mut() {

@@ -1,5 +1,6 @@
 use Rattle.std.proofs.Common.{rules, [], inr, length, refl, arith}
 use Rattle.lt_runner.proofs.PlaysOnLaws.{plays_not, plays_then, ready_still}
+use Rattle.lt_runner.proofs.SpendLaws.{spends_nothing, spends_then}
 use Rattle.lt_crew.proofs.StillLaws.{within_more, not_stuck_first}
 use Rattle.lt_crew.proofs.play.play_lines.Goals as goal
 
@@ -9,6 +10,7 @@ loop-line-init g c = record {
   ready = search rules;
   fit = search rules;
   plays = plays_not (g.Y.Yard.setting c.args.yard.now) [] (g.Y.Pass.Pass.view c.args.pass.now) c.args.turn.now c.requires.ready.sound;
+  spends = spends_nothing (g.Y.Yard.setting c.args.yard.now) (g.Y.Pass.Pass.view c.args.pass.now) c.args.turn.now;
   lines = omega arith;
   stuck = λ e. refl;
   within = inr (omega arith);
@@ -23,6 +25,7 @@ loop-line-preserved g c =
       ready = ready_still setting [] _ _ _ _ c.loop-line.invariant.ready c.in_ok-play_once.ensures.plays;
       fit = search rules;
       plays = plays_then setting [] _ _ _ _ _ _ c.loop-line.invariant.plays c.in_ok-play_once.ensures.plays;
+      spends = spends_then setting _ _ _ _ _ _ c.loop-line.invariant.spends c.in_ok-play_once.ensures.spends;
       lines = omega (arith, c.loop-line.invariant.lines, c.in_ok-play_once.ensures.on.lines);
       stuck = not_stuck_first c.args.turn.now c.loop-line.turn c.play_once.new.turn
           (c.may_go.ensures.goes (search rules)) c.loop-line.invariant.stuck;

@@ -1,6 +1,7 @@
 use Rattle.std.proofs.Common.{◌≡◌, ◌≤◌, [], length}
 use Rattle.lt_seq.specs.Yard.{origin_of}
 use Rattle.lt_runner.specs.PlaysOn.{IsFit, IsReady, PlaysOn}
+use Rattle.lt_runner.specs.Work.{Spends}
 use Rattle.lt_crew.specs.Crew.{IsStuck}
 use Rattle.lt_crew.proofs.StillLaws.{IsWithin}
 use Rattle.lt_crew.proofs.play.play_lines.Given as goal
@@ -14,6 +15,7 @@ invariant-loop-line g l =
       ready : IsReady setting (view l.pass);
       fit : IsFit setting l.turn;
       plays : PlaysOn setting [] (view l.fn.pass) (view l.pass) l.fn.turn l.turn;
+      spends : Spends setting (view l.fn.pass) (view l.pass) l.fn.turn l.turn;
       lines : length l.turn.turn.lines ≤ length l.fn.turn.turn.lines;
       stuck : IsStuck l.fn.turn → l.turn ≡ l.fn.turn;
       within : IsWithin (length l.fn.turn.turn.lines) l._line l.turn;

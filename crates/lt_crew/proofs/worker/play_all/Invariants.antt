@@ -2,7 +2,7 @@ use Rattle.std.proofs.Common.{◌≡◌, []}
 use Rattle.std.specs.List.{All}
 use Rattle.lt_seq.specs.Yard.{origin_of}
 use Rattle.lt_runner.specs.PlaysOn.{IsFit, IsReady}
-use Rattle.lt_crew.specs.Crew.{PlaysAll, IsPlayedOut}
+use Rattle.lt_crew.specs.Crew.{PlaysAll, SpendsAll, IsPlayedOut}
 use Rattle.lt_crew.specs.Workers.{UpTo}
 use Rattle.lt_crew.proofs.worker.play_all.Given as goal
 
@@ -15,5 +15,6 @@ invariant-loop-turn g l =
       ready : IsReady setting (view l.pass);
       fit : All (IsFit setting) l.turns;
       plays : PlaysAll setting [] (view l.fn.pass) (view l.pass) l.fn.turns l.turns;
+      spends : SpendsAll setting (view l.fn.pass) (view l.pass) l.fn.turns l.turns;
       out : UpTo IsPlayedOut l.turn-index l.fn.turns l.turns;
     }
