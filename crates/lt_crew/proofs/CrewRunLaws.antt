@@ -17,7 +17,8 @@ use Rattle.lt_runner.specs.Played.{Search, IsPastAt, Stands, AllStand}
 use Rattle.lt_runner.proofs.ListedLaws.{search_more, receipts_within}
 use Rattle.lt_runner.proofs.RunLaws.{come_is_run}
 use Rattle.lt_crew.specs.Crew.{numbers_in, only}
-use Rattle.lt_crew.specs.Rounds.{IsListedNow, AreRounds, opened, worked, searched, opening_seats, RoundsStand, RoundsAreARun}
+use Rattle.lt_runner.specs.Listed.{IsListedNow}
+use Rattle.lt_crew.specs.Rounds.{AreRounds, opened, worked, searched, opening_seats, RoundsStand, RoundsAreARun}
 use Rattle.lt_crew.proofs.MovedLaws.{only_there}
 use Rattle.lt_crew.proofs.StandLaws.{all_stand}
 

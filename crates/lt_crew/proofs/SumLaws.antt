@@ -1,10 +1,9 @@
 -- Sums over transactions and over passes.
-use Rattle.std.proofs.Common.{◌≡◌, ◌≢◌, ◌⊎◌, ◌<◌, ◌==◌, inl, inr, eq-eqb, ℕ, zero, suc, ◌+◌, ◌≤◌, List, [], ◌∷◌, Bool, true, false, if◌then◌else◌, length, get_or, set, slice_set, refl, sym, ap, subst, ◌∙◌, arith}
+use Rattle.std.proofs.Common.{◌≡◌, ◌≢◌, ◌⊎◌, ◌<◌, ◌==◌, inl, inr, eq-eqb, ℕ, zero, suc, ◌+◌, ◌≤◌, List, [], ◌∷◌, Bool, true, false, length, get_or, set, slice_set, refl, sym, ap, subst, ◌∙◌, arith}
 use Rattle.std.specs.List.{AllByRecursion}
-use Rattle.std.proofs.lemmas.Bool.{cases_eq, false≢true}
+use Rattle.std.proofs.lemmas.Bool.{cases_eq}
 use Rattle.std.proofs.lemmas.Bool.Decides.{nat_tests}
 use Rattle.lt_seq.specs.declared.event.Event.{Event}
-use Rattle.lt_seq.specs.declared.event.Receipt.{Receipt}
 use Rattle.lt_seq.specs.History.{IsLegal, calls_from}
 use Rattle.lt_seq.specs.Table.{Setting, opening}
 use Rattle.lt_seq.specs.Yard.{PassView}
@@ -82,5 +81,5 @@ spent_by setting before history were are legal_before legal each =
     let was = calls_sum setting.plan.passes first before (all_passes setting before (opening setting) legal_before) in
     let now = calls_sum setting.plan.passes first history (all_passes setting history (opening setting) legal) in
     let sums = sum_both (λ pass. length (calls_from first pass history)) (λ pass. work_all setting (are pass))
-        (λ pass. length (calls_from first pass before)) (λ pass. work_all setting (were pass)) setting.plan.passes each in
+    (λ pass. length (calls_from first pass before)) (λ pass. work_all setting (were pass)) setting.plan.passes each in
     omega (arith, was, now, sums)

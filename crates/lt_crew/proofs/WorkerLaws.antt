@@ -255,8 +255,8 @@ module _ {P : Type 0} (origin : P → Origin) (view : P → PassView) (place : O
         ≤ length (calls_from place.setting.plan.first pass before) + work_all place.setting (seats_by old pass)
     spent_at me now mine zeroth same began ended sound sound_now count zero inside =
         let is : calls_from place.setting.plan.first 0 history ≡ calls_from place.setting.plan.first 0 before =
-            ap (calls_from place.setting.plan.first 0) (sym ended) ∙ ap (λ n. calls_from place.setting.plan.first n now.front) (sym (same ∙ zeroth)) ∙ sym sound_now.mine ∙ mine ∙ sound.mine
-            ∙ ap (λ n. calls_from place.setting.plan.first n me.front) zeroth ∙ ap (calls_from place.setting.plan.first 0) began in
+        ap (calls_from place.setting.plan.first 0) (sym ended) ∙ ap (λ n. calls_from place.setting.plan.first n now.front) (sym (same ∙ zeroth)) ∙ sym sound_now.mine ∙ mine ∙ sound.mine
+        ∙ ap (λ n. calls_from place.setting.plan.first n me.front) zeroth ∙ ap (calls_from place.setting.plan.first 0) began in
         omega (arith, ap length is)
     spent_at me now mine zeroth same began ended sound sound_now count (suc k) inside =
         let h : k < length old = omega (arith, inside, count) in
@@ -270,9 +270,9 @@ module _ {P : Type 0} (origin : P → Origin) (view : P → PassView) (place : O
         let lent_number : (view (get_or lent k d).pass).number ≡ (view w.pass).number = ap (λ (q : PassView). q.number) l.pass in
         let new_number : (view (get_or new k d).pass).number ≡ suc k = ap (λ (q : PassView). q.number) p.pass ∙ p.plays.goes.number ∙ lent_number ∙ number in
         let was : (view (get_or lent k d).pass).mine ≡ calls_from first (suc k) before =
-            ap (λ (q : PassView). q.mine) l.pass ∙ r.sound.mine ∙ ap (λ n. calls_from first n (view w.pass).front) number ∙ ap (calls_from first (suc k)) r.seen in
+        ap (λ (q : PassView). q.mine) l.pass ∙ r.sound.mine ∙ ap (λ n. calls_from first n (view w.pass).front) number ∙ ap (calls_from first (suc k)) r.seen in
         let is : p.between.mine ≡ calls_from first (suc k) history =
-            sym (ap (λ (q : PassView). q.mine) p.pass) ∙ p.sound.mine ∙ ap (λ n. calls_from first n (view (get_or new k d).pass).front) new_number ∙ ap (calls_from first (suc k)) (ap (λ (q : PassView). q.front) p.pass) in
+        sym (ap (λ (q : PassView). q.mine) p.pass) ∙ p.sound.mine ∙ ap (λ n. calls_from first n (view (get_or new k d).pass).front) new_number ∙ ap (calls_from first (suc k)) (ap (λ (q : PassView). q.front) p.pass) in
         let were : seats_by old (suc k) ≡ (get_or lent k d).turns.items = seats_at old k d h ∙ sym (ap (λ (s : Vec Seat). s.items) l.turns) in
         let are : seats_by new (suc k) ≡ (get_or new k d).turns.items = seats_at new k d (there_too k h) in
         omega (arith, p.spends, ap length was, ap length is, ap (work_all place.setting) were, ap (work_all place.setting) are)

@@ -1,6 +1,6 @@
 -- Runs of a crew: rounds of its workers, and turns of its caller, from the opening to the end.
 use Rattle.std.specs.Prelude.{◌≡◌, ◌≢◌, ℕ, ◌<◌, ◌≤◌, List, [], ◌∷◌}
-use Rattle.std.specs.Prelude.{◌++◌, map, length, slice_index_or, slice_set, true, Some, IfSome, IsTrue}
+use Rattle.std.specs.Prelude.{◌++◌, map, length, slice_index_or, slice_set, true, IsTrue}
 use Rattle.std.specs.List.{AllByRecursion, filter_map}
 use Rattle.lt_ranges.specs.Numbers.{is_in}
 use Rattle.lt_seq.specs.declared.event.Event.{Event}
@@ -8,13 +8,13 @@ use Rattle.lt_seq.specs.Table.{Setting}
 use Rattle.lt_seq.specs.Yard.{PassView, HasAll, IsSound, place_after}
 use Rattle.lt_trace.specs.declared.line.Line.{Line}
 use Rattle.lt_trace.specs.Grammar.{txns_of}
-use Rattle.lt_requests.specs.declared.wish.Wish.{Wish}
 use Rattle.lt_runner.specs.TurnView.{Seat}
 use Rattle.lt_runner.specs.Seats.{opening_seat}
-use Rattle.lt_runner.specs.Plays.{lines_for, next_wish, wish_in}
+use Rattle.lt_runner.specs.Plays.{lines_for}
 use Rattle.lt_runner.specs.Played.{Search, AllStand, IsOver}
 use Rattle.lt_runner.specs.PlaysOn.{PlaysOn}
 use Rattle.lt_runner.specs.Run.{Play, IsRun, ended_as}
+use Rattle.lt_runner.specs.Listed.{IsListedNow}
 use Rattle.lt_runner.specs.Serial.{ended_in}
 use Rattle.lt_crew.specs.Crew.{numbers_in, AreDistinct, IsRound, only}
 
@@ -55,12 +55,6 @@ AreOfTrace lines were = (pass txn : ℕ) → IsTrue (is_in txn (numbers_in (were
 -- the transactions of a trace, none of them begun
 abbrev pub opening_seats : Setting → List Line → List Seat
 opening_seats setting lines = map (λ txn. opening_seat setting.plan.trees txn (lines_for txn lines)) (txns_of lines)
-
--- A transaction is listed rightly among these wishes: one that has a wish there waits for it, and one that is registered has its own.
-pub record IsListedNow (wishes : List Wish) (seat : Seat) : Type 0 where
-  pub waits : IfSome (wish_in seat.turn.txn wishes)
-      (λ wish. IsTrue seat.turn.waits × (next_wish seat.turn.txn seat.turn.lines ≡ Some wish))
-  pub listed : seat.listed ≡ true → wish_in seat.turn.txn wishes ≡ next_wish seat.turn.txn seat.turn.lines
 
 -- A search of the caller's for one transaction: it comes behind these events and is of the history, and each other transaction is listed
 -- rightly in it.
