@@ -8,3 +8,4 @@ mod PairLaws
 mod ReadLaws
 mod DropLaws
 mod HandingLaws
+mod WorkedLaws

@@ -1,3 +1,4 @@
 pub mod Buffers
 pub mod Images
 pub mod Chains
+pub mod Worked

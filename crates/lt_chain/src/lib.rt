@@ -11,6 +11,7 @@ mod pairs;
 mod put;
 mod read;
 mod walk;
+pub mod worked;
 
 pub use add::{append, begin};
 pub use drop::drop_all;
