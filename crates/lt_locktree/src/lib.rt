@@ -3,9 +3,9 @@
 
 mod asking;
 mod drawing;
+mod giving;
 mod growing;
 mod inserting;
-mod giving;
 pub mod laws;
 mod leaving;
 mod owners;
