@@ -133,12 +133,15 @@ module _ (v : View) (tree : ℕ) (asked : Interval) (here : ℕ) (rows : List Pa
             (λ p h. holds_others p (in_left p chained (given_to pool link ∷ []) h)) chains);
       }
 
-  pub free_only : PlansOnly (here ∷ v.plan.trees ∷ numbers rows) (planned_rows plan)
-  free_only q none =
+  pub free_times : (q : ℕ) → times q (planned_rows plan) ≡ times q (numbers rows) + times q (v.plan.trees ∷ []) + times q (here ∷ [])
+  free_times q =
       let a = plan_times v tree asked here rows hangs more l lt interval stays loaded others plan rows' hangs' plans once q in
       let b = others_times q in
       let p = parts q in
       omega arith
+
+  pub free_only : PlansOnly (here ∷ v.plan.trees ∷ numbers rows) (planned_rows plan)
+  free_only q none = let t = free_times q in omega arith
 
 pub free_plan_commits : FreePlanCommits
 free_plan_commits v tree asked here rows rows' hangs hangs' more stays pool chained plan link first e change l closed lt interval keeps left_out pool_in loaded

@@ -19,3 +19,4 @@ pub mod FreePlans
 pub mod GrownServed
 pub mod ChainLaws
 pub mod LeavingLaws
+pub mod FreeServed

@@ -1,8 +1,11 @@
 -- A part from which a transaction's rows are left out.
-use Rattle.std.specs.Prelude.{◌≡◌, ℕ, ◌<◌, List, length, not, slice_index}
+use Rattle.std.specs.Prelude.{◌≡◌, ℕ, ◌<◌, List, [], ◌∷◌, ◌++◌, length, not, reverse, slice_index}
 use Rattle.lt_ranges.specs.Interval.{Interval}
 use Rattle.lt_forest.specs.declared.part.PartRow.{PartRow}
 use Rattle.lt_forest.specs.Items.{LeavesOut}
+use Rattle.lt_rows.specs.declared.image.RowImage.{RowImage}
+use Rattle.lt_locktree.specs.Given.{IsChained, given_to}
+use Rattle.lt_locktree.specs.PlannedParts.{PlansRows}
 use Rattle.lt_locktree.specs.declared.leaving.LeftOut.{LeftOut}
 use Rattle.lt_locktree.specs.declared.leaving.Leaving.{Leaving}
 use Rattle.lt_locktree.specs.declared.leaving.Leaving.TheVariants.{Left, Meets}
@@ -16,3 +19,10 @@ pub record IsLeftOut (txn : ℕ) (range : Interval) (rows : List PartRow) (hangs
 abbrev pub IsLeaving : ℕ → Interval → List PartRow → List ℕ → Leaving → Type 0
 IsLeaving txn range rows hangs (Left left) = IsLeftOut txn range rows hangs left
 IsLeaving txn range rows hangs (Meets at) = (at < length hangs) × (0 < slice_index hangs at)
+
+-- the plan by which the rows that go are put to the front of the pool, and the others are laid out anew
+pub record PlansFreed (tree : ℕ) (range : Interval) (stays pool : RowImage) (left : LeftOut) (plan : List RowImage) : Type 0 where
+  pub link : ℕ
+  pub chained : List RowImage
+  pub chained_is : IsChained chained link (reverse left.gone.items) (slice_index pool.words 17)
+  pub plans : PlansRows tree range stays (chained ++ given_to pool link ∷ []) plan left.part.rows.items left.part.hangs.items

@@ -6,6 +6,7 @@ mod drawing;
 mod giving;
 mod growing;
 mod inserting;
+mod freeing;
 pub mod laws;
 mod leaving;
 mod owners;
@@ -13,8 +14,11 @@ mod planning;
 mod questions;
 
 pub use asking::Asking;
+pub use freeing::{free_rows, plan_freed};
 pub use growing::{grow_row, plan_grown};
 pub use inserting::plan_put_in;
+
+pub use leaving::{Leaving, LeftOut, leave_out};
 pub use owners::owners_of;
 pub use planning::plan_rows;
 pub use questions::{ask_who, refuse_ask};

@@ -42,6 +42,13 @@ fn take_row(table: &RowTable, pass: &mut RowPass, row: u32, spins: u32) -> Resul
 }
 
 impl<'a> Locked<'a> {
+    /// The number of the pool's anchor, which stands behind those of the trees.
+    pub fn pool_row(&self) -> u32
+        ensures { result ≡ (knows self.now.pass).plan.trees }
+    {
+        self.table.plan().trees
+    }
+
     /// Takes the pool's anchor where the state doesn't hold it yet. After a refusal the state is as before.
     ///
     /// It takes no memory.
