@@ -20,3 +20,4 @@ pub mod GrownServed
 pub mod ChainLaws
 pub mod LeavingLaws
 pub mod FreeServed
+pub mod JoinedParts

@@ -10,3 +10,4 @@ pub mod LawsOfPlans
 pub mod LawsOfFrees
 pub mod LawsOfFreePlans
 pub mod Leavings
+pub mod LawsOfJoins

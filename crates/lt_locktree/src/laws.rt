@@ -3,6 +3,7 @@ ghost use Rattle.lt_locktree.specs.LawsOfDeeds.{WhoCommits, HeldAskCommits};
 ghost use Rattle.lt_locktree.specs.LawsOfFrees.{FreeCommits, NoneFreedCommits};
 ghost use Rattle.lt_locktree.specs.LawsOfFreePlans.{FreePlanCommits};
 ghost use Rattle.lt_locktree.specs.LawsOfGrants.{MergedAskCommits, PutInAskCommits};
+ghost use Rattle.lt_locktree.specs.LawsOfJoins.{JoinCommits};
 ghost use Rattle.lt_locktree.specs.LawsOfPlans.{GrownPlanCommits, MergedPlanCommits, PutInPlanCommits};
 
 /// What a search holds for a range answers who holds it, and an ask that others hold, by a commit that changes no row.
@@ -35,4 +36,9 @@ pub fn frees_are_made()
 /// The plan of a free, as it is made.
 pub fn plans_of_frees()
     ensures { FreePlanCommits }
+{}
+
+/// A join is a commit of a plan in which each longest run of neighbours of one owner becomes one row.
+pub fn joins_are_made()
+    ensures { JoinCommits }
 {}
