@@ -1,10 +1,16 @@
 //! A part from which a transaction's rows are left out.
-ghost use Rattle.std.specs.Prelude.{◌≡◌, ◌+◌, length, IfOk};
+ghost use Rattle.std.specs.Prelude.{◌≡◌, ◌+◌, length, IfOk, IfErr};
 ghost use Rattle.lt_locktree.specs.LawsOfFrees.{goes};
-ghost use Rattle.lt_locktree.specs.Leavings.{IsLeaving};
+ghost use Rattle.lt_locktree.specs.Leavings.{IsLeaving, IsLeftOut};
+ghost use Rattle.lt_rows.specs.Handles.{knows, IsSamePass};
+ghost use Rattle.lt_tree.specs.Gathers.{IsLocked, IsClosed};
+ghost use Rattle.lt_tree.specs.States.{OnlyRows, IsRefused};
 
+use crate::asking::Asking;
 use lt_forest::{Part, PartRow};
 use lt_ranges::KeyRange;
+use lt_seq::Fault;
+use lt_tree::Locked;
 use std::alloc::{AllocError, Global};
 
 /// A part without the rows that go.
@@ -63,4 +69,38 @@ pub fn leave_out(
     hangs.push(ahead)?;
     let part = Part { rows, hangs };
     Ok(Leaving::Left(LeftOut { part, gone }))
+}
+
+/// Takes rows into the part of a search, which stays closed, until the transaction's rows that overlap can be left out of it.
+///
+/// # Errors
+/// `Busy` only where a row was met held by another pass, which never comes to a pass with all the rights; or want of memory. The search
+/// goes on with the part that it has then.
+pub fn leave_widened<'a>(
+    alloc: Global,
+    locked: &mut Locked<'a>,
+    asking: &Asking,
+) -> Result<LeftOut, Fault>
+    requires locked { IsLocked (knows locked.old.pass) locked.old.tree locked.old.asked locked.old.held locked.old.part.rows.items
+        locked.old.part.hangs.items }
+    requires closed { IsClosed locked.old.asked locked.old.part.rows.items locked.old.part.hangs.items }
+    ensures same { IsSamePass locked.old.pass locked.new.pass × OnlyRows (knows locked.old.pass) (knows locked.new.pass) }
+    ensures kept { (locked.new.table ≡ locked.old.table) × (locked.new.tree ≡ locked.old.tree) × (locked.new.asked ≡ locked.old.asked)
+        × (locked.new.held ≡ locked.old.held) × (locked.new.pool ≡ locked.old.pool) }
+    ensures locked { IsLocked (knows locked.new.pass) locked.new.tree locked.new.asked locked.new.held locked.new.part.rows.items
+        locked.new.part.hangs.items }
+    ensures closed { IsClosed locked.new.asked locked.new.part.rows.items locked.new.part.hangs.items }
+    ensures left { IfOk result (IsLeftOut asking.now.txn asking.now.range locked.new.part.rows.items locked.new.part.hangs.items) }
+    ensures refused { IfErr result (IsRefused (knows locked.old.pass) (knows locked.new.pass)) }
+{
+    loop {
+        match leave_out(alloc, locked.part(), asking.txn, &asking.range) {
+            Ok(Leaving::Left(left)) => return Ok(left),
+            Ok(Leaving::Meets(at)) => match locked.widen(at) {
+                Ok(()) => {}
+                Err(fault) => return Err(fault),
+            },
+            Err(_) => return Err(Fault::OutOfMemory),
+        }
+    }
 }

@@ -3,10 +3,10 @@
 
 mod asking;
 mod drawing;
+mod freeing;
 mod giving;
 mod growing;
 mod inserting;
-mod freeing;
 pub mod laws;
 mod leaving;
 mod owners;
@@ -17,8 +17,7 @@ pub use asking::Asking;
 pub use freeing::{free_rows, plan_freed};
 pub use growing::{grow_row, plan_grown};
 pub use inserting::plan_put_in;
-
-pub use leaving::{Leaving, LeftOut, leave_out};
+pub use leaving::{Leaving, LeftOut, leave_out, leave_widened};
 pub use owners::owners_of;
 pub use planning::plan_rows;
 pub use questions::{ask_who, refuse_ask};

@@ -1,5 +1,5 @@
 //! A search that holds a row, and below it a part.
-ghost use Rattle.std.specs.Prelude.{◌≡◌, ◌<◌, ◌≤◌, ◌^◌, ℕ, IfOk, IfErr, [], length, slice_index};
+ghost use Rattle.std.specs.Prelude.{◌≡◌, ◌+◌, ◌<◌, ◌≤◌, ◌^◌, ℕ, IfOk, IfErr, [], length, slice_index};
 ghost use Rattle.std.specs.Prelude.{vec_len, vec_capacity};
 ghost use Rattle.lt_ranges.specs.Interval.{IsInterval};
 ghost use Rattle.lt_forest.specs.Forest.{IsTree};
@@ -7,7 +7,7 @@ ghost use Rattle.lt_rows.specs.Nodes.{mode_of};
 ghost use Rattle.lt_rows.specs.Views.{IsHeld, row_at, words_of};
 ghost use Rattle.lt_rows.specs.Handles.{knows, IsPassOf, IsSamePass};
 ghost use Rattle.lt_tree.specs.States.{HoldsNone, OnlyHeld, OnlyRows, KeepsRows, IsRefused};
-ghost use Rattle.lt_tree.specs.Descents.{Stays, IsLast};
+ghost use Rattle.lt_tree.specs.Descents.{Stays, IsLast, free_rows};
 ghost use Rattle.lt_tree.specs.Gathers.{IsLocked, IsLockedWith, IsClosed, PlacedAt};
 ghost use Rattle.lt_tree.specs.Pools.{pool_rows};
 ghost use Rattle.lt_tree.specs.declared.pool.PoolRows.TheVariants.{Nothing};
@@ -232,7 +232,7 @@ impl<'a> Locked<'a> {
     ///
     /// # Errors
     /// `Busy` only where that row was met held by another pass, which never comes to a pass with all the rights; or want of memory.
-    pub fn widen(&mut self, hang: u32) -> Result<(), Fault>
+    pub fn widen(&mut self, hang: usize) -> Result<(), Fault>
         requires hang { (hang < length self.old.part.hangs.items) × (0 < slice_index self.old.part.hangs.items hang) }
         requires locked { IsLocked (knows self.old.pass) self.old.tree self.old.asked self.old.held self.old.part.rows.items
             self.old.part.hangs.items }
@@ -244,6 +244,7 @@ impl<'a> Locked<'a> {
         ensures closed { IsClosed self.old.asked self.old.part.rows.items self.old.part.hangs.items
             → IsClosed self.new.asked self.new.part.rows.items self.new.part.hangs.items }
         ensures rows { KeepsRows (knows self.old.pass) (knows self.new.pass) }
+        ensures wider { IfOk result (λ _. free_rows (knows self.new.pass).held + 1 ≡ free_rows (knows self.old.pass).held) }
         ensures placed { IfOk result (λ _. PlacedAt hang self.old.part.rows.items self.new.part.rows.items
             self.old.part.hangs.items self.new.part.hangs.items) }
         ensures before { IfErr result (λ _. (self.new.part.rows.items ≡ self.old.part.rows.items)
@@ -255,7 +256,7 @@ impl<'a> Locked<'a> {
             self.table,
             &mut self.pass,
             &mut self.part,
-            hang as usize,
+            hang,
             self.spins,
             self.tree,
             &asked,
