@@ -1,5 +1,5 @@
 //! A free by which rows of a part go.
-ghost use Rattle.std.specs.Prelude.{◌≡◌, ◌+◌, ◌-◌, ◌^◌, ◌<◌, pos, ◌+ℤ◌, List, All, IfOk, IfErr, true, false, length, map};
+ghost use Rattle.std.specs.Prelude.{◌≡◌, ◌+◌, ◌-◌, ◌^◌, ◌<◌, pos, ◌+ℤ◌, ℕ, List, All, IfOk, IfErr, true, false, length, map};
 ghost use Rattle.lt_seq.specs.declared.event.Deed.TheVariants.{Free};
 ghost use Rattle.lt_seq.specs.Pairs.{count_freed};
 ghost use Rattle.lt_forest.specs.declared.part.PartRow.{PartRow};
@@ -8,14 +8,15 @@ ghost use Rattle.lt_rows.specs.declared.image.RowImage.{RowImage as Image};
 ghost use Rattle.lt_rows.specs.declared.view.View.{View};
 ghost use Rattle.lt_rows.specs.Handles.{knows, IsPassOf, IsSamePass};
 ghost use Rattle.lt_tree.specs.States.{HoldsNone, OnlyRows, IsRefused};
-ghost use Rattle.lt_tree.specs.Gathers.{IsLockedWith, IsClosed};
+ghost use Rattle.lt_tree.specs.Gathers.{IsLocked, IsLockedWith, IsClosed};
 ghost use Rattle.lt_tree.specs.Pools.{pool_rows};
+ghost use Rattle.lt_tree.specs.declared.pool.PoolRows.TheVariants.{Nothing};
 ghost use Rattle.lt_locktree.specs.Makes.{IsOf, Makes};
 ghost use Rattle.lt_locktree.specs.Leavings.{IsLeftOut, PlansFreed};
 
 use crate::asking::Asking;
 use crate::giving::chain;
-use crate::leaving::LeftOut;
+use crate::leaving::{LeftOut, leave_widened};
 use crate::planning::plan_rows;
 use lt_rows::{RowImage, RowPass};
 use lt_seq::{Deed, Event, Fault, Receipt};
@@ -111,4 +112,39 @@ pub fn free_rows<'a>(
     };
     let (pass, place) = locked.finish(&plan, &event, fewer(count));
     Ok((pass, Receipt { place, event }))
+}
+
+/// Frees the range for the transaction, by an event that ends the search. Where two links would come to hang side by side, the part is
+/// widened first. No score rises by it.
+///
+/// # Errors
+/// `Busy` only where a row was met held by another pass, which never comes to a pass with all the rights; or want of memory. There is
+/// no event then, and no row is held.
+pub fn free_in_tree<'a>(
+    alloc: Global,
+    locked: Locked<'a>,
+    asking: &Asking,
+) -> Result<(RowPass, Receipt), (RowPass, Fault)>
+    requires fresh { (knows locked.pass).fresh ≡ true }
+    requires locked { IsLocked (knows locked.pass) locked.tree locked.asked locked.held locked.part.rows.items locked.part.hangs.items }
+    requires pool { locked.pool ≡ Nothing }
+    requires closed { IsClosed locked.asked locked.part.rows.items locked.part.hangs.items }
+    requires asking { IsOf locked.pass locked.tree locked.asked asking.now }
+    ensures of { IfOk result (λ r. IsPassOf locked.entry.table.now r.0 × IsSamePass locked.entry.pass r.0 × HoldsNone (knows r.0)) }
+    ensures made { IfOk result (λ r. (u : View) × (plan : List Image) × OnlyRows (knows locked.entry.pass) u
+        × Makes u (knows r.0) plan r.1.event r.1.place) }
+    ensures event { IfOk result (λ r. (count : ℕ) × (r.1.event ≡ record {
+      pass = asking.now.pass;
+      txn = asking.now.txn;
+      deed = Free asking.now.tree asking.now.range false count;
+    })) }
+    ensures handed { IfErr result (λ r. IsPassOf locked.entry.table.now r.0 × IsSamePass locked.entry.pass r.0 × HoldsNone (knows r.0)
+        × OnlyRows (knows locked.entry.pass) (knows r.0)) }
+    ensures refused { IfErr result (λ r. IsRefused (knows locked.entry.pass) (knows r.0) r.1) }
+{
+    let mut locked = locked;
+    match leave_widened(alloc, &mut locked, asking) {
+        Ok(left) => free_rows(alloc, locked, asking, &left),
+        Err(fault) => Err((locked.release(), fault)),
+    }
 }

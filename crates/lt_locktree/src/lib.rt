@@ -14,7 +14,7 @@ mod planning;
 mod questions;
 
 pub use asking::Asking;
-pub use freeing::{free_rows, plan_freed};
+pub use freeing::{free_in_tree, free_rows, plan_freed};
 pub use growing::{grow_row, plan_grown};
 pub use inserting::plan_put_in;
 pub use leaving::{Leaving, LeftOut, leave_out, leave_widened};
