@@ -1,13 +1,12 @@
 -- The plan of a free meets what a commit asks.
-use Rattle.std.proofs.Common.{◌≡◌, ◌⊎◌, inl, inr, ℕ, ◌+◌, ◌<◌, ◌≤◌, Bool, true, false, not, List, [], ◌∷◌, ◌++◌, length, refl, sym, ap, ◌∙◌, subst, arith, if◌then◌else◌}
+use Rattle.std.proofs.Common.{◌≡◌, inl, ℕ, ◌+◌, ◌<◌, ◌≤◌, Bool, true, false, not, List, [], ◌∷◌, ◌++◌, refl, sym, ap, ◌∙◌, subst, arith, if◌then◌else◌}
 use Rattle.std.specs.Prelude.{slice_index, reverse}
 use Rattle.std.proofs.lemmas.List.{reverse-append, length-reverse}
 use Rattle.std.specs.List.{filter}
 use Rattle.lt_ranges.specs.Interval.{Interval, IsInterval}
 use Rattle.lt_forest.specs.declared.part.PartRow.{PartRow}
 use Rattle.lt_forest.specs.Counts.{times}
-use Rattle.lt_forest.specs.Trees.{Node, in_order}
-use Rattle.lt_forest.specs.Cuts.{bare}
+use Rattle.lt_forest.specs.Trees.{Node}
 use Rattle.lt_forest.specs.Parts.{numbers}
 use Rattle.lt_forest.specs.Items.{LeavesOut}
 use Rattle.lt_forest.specs.Forest.{IsRun}
@@ -18,20 +17,20 @@ use Rattle.lt_rows.specs.declared.view.View.{View}
 use Rattle.lt_rows.specs.declared.image.RowImage.{RowImage}
 use Rattle.lt_rows.specs.Nodes.{node_of}
 use Rattle.lt_rows.specs.Views.{has, planned_rows}
-use Rattle.lt_rows.specs.Lawful.{shown, shown_after, mode_before, mode_after}
+use Rattle.lt_rows.specs.Lawful.{shown, shown_after}
 use Rattle.lt_rows.proofs.ThreeRows.{is_left, link_left}
-use Rattle.lt_tree.specs.Gathers.{Place, below_top, on_left, on_right, TopIs, IsLockedWith, IsClosed}
+use Rattle.lt_tree.specs.Gathers.{Place, below_top, on_left, on_right, IsLockedWith, IsClosed}
 use Rattle.lt_locktree.specs.Given.{IsChained, given_to}
-use Rattle.lt_locktree.specs.LawsOfFrees.{goes, freed_rows, AreNumbersOf, RaisesAnchor}
+use Rattle.lt_locktree.specs.LawsOfFrees.{goes, freed_rows, AreNumbersOf}
 use Rattle.lt_locktree.specs.LawsOfFreePlans.{FreePlanCommits}
 use Rattle.lt_locktree.specs.PlannedParts.{InPlan, PlansRows, IsLoaded}
 use Rattle.lt_locktree.specs.Relaid.{StaysBeside, LaysPart}
-use Rattle.lt_locktree.specs.RelaidRows.{RowStays, LaysRows}
+use Rattle.lt_locktree.specs.RelaidRows.{RowStays}
 use Rattle.lt_locktree.proofs.GrantedRuns.{numbers_are, sub_held, length-numbers}
 use Rattle.lt_locktree.proofs.PlannedRows.{in_left, in_right}
 use Rattle.lt_locktree.proofs.DrawnParts.{planned_app}
 use Rattle.lt_locktree.proofs.LaidParts.{loaded_at, plan_times, planned_image, other_planned, laid_part}
-use Rattle.lt_locktree.proofs.PlanLaws.{here_apart, rows_apart, all_once}
+use Rattle.lt_locktree.proofs.PlanLaws.{all_once}
 use Rattle.lt_locktree.proofs.MergedPlans.{one_of, chained_times, chained_run}
 use Rattle.lt_locktree.proofs.FreedParts.{anchor_keeps, keeps_score, free_commits}
 

@@ -1,25 +1,22 @@
 -- A free: the transaction's rows that overlap are left out of the part, and go to the pool.
-use Rattle.std.proofs.Common.{◌≡◌, ◌⊎◌, inl, inr, ℕ, zero, ◌+◌, ◌<◌, ◌&&◌, Bool, true, false, not, List, [], ◌∷◌, map, length, suc, refl, sym, ap, ◌∙◌, subst, arith, append-nil}
-use Rattle.std.specs.Prelude.{pos, ℤ, ◌+ℤ◌, nat_lt, if◌then◌else◌, None}
+use Rattle.std.proofs.Common.{◌≡◌, ◌⊎◌, inl, inr, ℕ, zero, ◌+◌, Bool, true, false, not, List, [], ◌∷◌, map, length, suc, refl, sym, ap, ◌∙◌, subst, arith, append-nil}
+use Rattle.std.specs.Prelude.{pos, ◌+ℤ◌, if◌then◌else◌}
 use Rattle.std.specs.List.{filter}
-use Rattle.std.proofs.Math.IntN.{+ℤ_assoc}
 use Rattle.lt_ranges.specs.Interval.{Interval, IsInterval}
 use Rattle.lt_seq.specs.declared.event.Pair.{Pair}
 use Rattle.lt_seq.specs.declared.event.Mode.{Mode}
 use Rattle.lt_seq.specs.declared.event.Mode.TheVariants.{Tree as TreeMode}
 use Rattle.lt_seq.specs.declared.event.Deed.TheVariants.{Free}
-use Rattle.lt_seq.specs.Pairs.{IsLawful, is_own, freed, count_freed}
+use Rattle.lt_seq.specs.Pairs.{is_own, freed, count_freed}
 use Rattle.lt_seq.specs.SeqPass.{plain}
 use Rattle.lt_seq.specs.Table.{Setting, raised}
 use Rattle.lt_forest.specs.declared.part.PartRow.{PartRow}
 use Rattle.lt_forest.specs.Counts.{times}
-use Rattle.lt_forest.specs.Trees.{Nodes, in_order, pair_of, pairs_in}
+use Rattle.lt_forest.specs.Trees.{Nodes, in_order, pairs_in}
 use Rattle.lt_forest.specs.Cuts.{Cut, bare}
 use Rattle.lt_forest.specs.Items.{Item, row, hang, hang_if, items, sift, LeavesOut}
 use Rattle.lt_forest.specs.Parts.{rows_of, hangs_of, row_pair, numbers}
 use Rattle.lt_forest.specs.Plans.{Top, ShowsDeed, SameRows}
-use Rattle.lt_forest.specs.Links.{Slot, row_with}
-use Rattle.lt_forest.specs.Sides.{IsOnSide}
 use Rattle.lt_forest.specs.Sides.{around as beside}
 use Rattle.lt_forest.specs.Views.{PlansOnly, no_pool}
 use Rattle.lt_forest.proofs.PublicPartLaws.{left_out_loosens, left_out_is_freed, left_out_keeps_rows, side_shows_free}
@@ -29,7 +26,7 @@ use Rattle.lt_rows.specs.declared.image.RowImage.{RowImage}
 use Rattle.lt_rows.specs.Views.{planned_rows}
 use Rattle.lt_rows.specs.Lawful.{shown, shown_after, mode_before, mode_after, KnowsTop}
 use Rattle.lt_tree.specs.Gathers.{Place, below_top, on_left, on_right, TopIs, IsLockedWith}
-use Rattle.lt_locktree.specs.LawsOfFrees.{goes, freed_rows, KeepsScore, RaisesAnchor, AreNumbersOf, FreeCommits, NoneFreedCommits}
+use Rattle.lt_locktree.specs.LawsOfFrees.{goes, freed_rows, KeepsScore, RaisesAnchor, FreeCommits, NoneFreedCommits}
 use Rattle.lt_locktree.specs.Relaid.{StaysBeside}
 use Rattle.lt_locktree.specs.RelaidRows.{RowStays}
 use Rattle.lt_locktree.proofs.HeldParts.{sub_pairs}

@@ -1,6 +1,6 @@
 -- A join: each longest run of neighbours of one owner becomes one row.
-use Rattle.std.proofs.Common.{◌≡◌, ℕ, zero, suc, ◌+◌, ◌<◌, List, [], ◌∷◌, ◌++◌, map, length, replicate, refl, sym, ap, ◌∙◌, subst, arith, append-nil}
-use Rattle.std.specs.Prelude.{pos, ℤ, ◌+ℤ◌, None}
+use Rattle.std.proofs.Common.{◌≡◌, ℕ, zero, suc, ◌+◌, List, [], ◌∷◌, map, length, replicate, refl, sym, ap, ◌∙◌, subst, arith, append-nil}
+use Rattle.std.specs.Prelude.{None}
 use Rattle.std.proofs.lemmas.List.{length-map}
 use Rattle.lt_ranges.specs.Interval.{whole}
 use Rattle.lt_seq.specs.declared.event.Pair.{Pair}
@@ -21,10 +21,8 @@ use Rattle.lt_forest.specs.Views.{PlansOnly}
 use Rattle.lt_forest.proofs.PublicLaws.{ends_are_hanging}
 use Rattle.lt_forest.proofs.PublicPartLaws.{rows_show_pairs}
 use Rattle.lt_forest.proofs.RowsAndHangs.{numbers_of}
-use Rattle.lt_rows.specs.declared.view.View.{View}
 use Rattle.lt_rows.specs.Views.{planned_rows}
 use Rattle.lt_rows.specs.Lawful.{shown, shown_after, mode_before, mode_after}
-use Rattle.lt_tree.specs.Gathers.{Place}
 use Rattle.lt_locktree.specs.LawsOfJoins.{JoinCommits}
 use Rattle.lt_locktree.proofs.HeldParts.{sub_pairs}
 use Rattle.lt_locktree.proofs.GrantedRuns.{sub_held, numbers_are, length-numbers, counted}

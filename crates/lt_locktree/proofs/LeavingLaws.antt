@@ -1,6 +1,5 @@
 -- Rows are left out of a part one by one.
 use Rattle.std.proofs.Common.{◌≡◌, ◌⊎◌, ℕ, ◌+◌, ◌<◌, Bool, true, false, not, List, [], ◌∷◌, ◌++◌, length, take, get_or, append-nil, refl, sym, ap, ◌∙◌, subst, arith, if◌then◌else◌}
-use Rattle.std.specs.List.{filter}
 use Rattle.std.proofs.lemmas.List.{take_more}
 use Rattle.lt_ranges.specs.Interval.{Interval}
 use Rattle.lt_forest.specs.declared.part.PartRow.{PartRow}

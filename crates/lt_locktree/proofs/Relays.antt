@@ -1,5 +1,5 @@
 -- A plan that lays the part of a search anew for any deed in Tree mode meets what a commit asks.
-use Rattle.std.proofs.Common.{◌≡◌, ℕ, ◌+◌, ◌<◌, ◌≤◌, inl, inr, true, List, [], ◌∷◌, ◌++◌, length, length-append, refl, sym, ap, ◌∙◌, subst, arith, eq-eqb, ne_eqb}
+use Rattle.std.proofs.Common.{◌≡◌, ℕ, ◌+◌, ◌<◌, inl, inr, true, List, [], ◌∷◌, ◌++◌, length, refl, sym, ap, ◌∙◌, subst, arith, eq-eqb, ne_eqb}
 use Rattle.std.specs.Prelude.{pos, ℤ, ◌+ℤ◌, nat_eq, None}
 use mathlib.Core.Logic.{dite}
 use native.Mathlib.Decide.{ℕ_discrete}
@@ -14,7 +14,7 @@ use Rattle.lt_seq.specs.SeqPass.{plain}
 use Rattle.lt_seq.specs.Table.{tree_of}
 use Rattle.lt_forest.specs.declared.part.PartRow.{PartRow}
 use Rattle.lt_forest.specs.Counts.{times, one_if}
-use Rattle.lt_forest.specs.Trees.{Nodes, Node, in_order, pair_of, pairs_in}
+use Rattle.lt_forest.specs.Trees.{Nodes, in_order, pair_of, pairs_in}
 use Rattle.lt_forest.specs.Cuts.{Cut, Shows, bare, ends, Looser}
 use Rattle.lt_forest.specs.Plans.{Top, top_link, range_of, IsClosedFor, ShowsDeed, SameRows}
 use Rattle.lt_forest.specs.Links.{Slot, left_of, right_of, row_with}

@@ -1,4 +1,4 @@
-use Rattle.std.proofs.Common.{List, Result, Ok, Err, IfOk, ℕ}
+use Rattle.std.proofs.Common.{List, Result, Ok, Err, IfOk}
 use Rattle.lt_rows.specs.declared.image.RowImage.{RowImage as Image}
 use Rattle.lt_rows.specs.declared.view.View.{View}
 use Rattle.lt_rows.specs.Handles.{knows}

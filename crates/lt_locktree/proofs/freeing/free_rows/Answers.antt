@@ -1,15 +1,12 @@
-use Rattle.std.proofs.Common.{rules, ◌≡◌, ℕ, ◌+◌, ◌-◌, ◌^◌, ◌<◌, List, [], ◌∷◌, length, map, false, not, refl, sym, ap, ◌∙◌, subst, eq-eqb, arith, All, ℤ, pos, ◌+ℤ◌, w64, FitsSigned}
+use Rattle.std.proofs.Common.{rules, ◌≡◌, ℕ, ◌-◌, ◌^◌, ◌<◌, List, length, false, not, refl, sym, ap, ◌∙◌, subst, eq-eqb, arith, All, ℤ, pos, ◌+ℤ◌, w64, FitsSigned}
 use Rattle.std.specs.Prelude.{nat_eq}
-use Rattle.std.specs.List.{filter}
 use Rattle.std.proofs.lemmas.Int.{to_z-of_z}
 use Rattle.std.proofs.lemmas.List.Elements.{All-filter}
 use Rattle.lt_ranges.specs.Interval.{Interval, IsInterval}
 use Rattle.lt_seq.specs.declared.event.Deed.TheVariants.{Free}
-use Rattle.lt_seq.specs.Pairs.{count_freed}
 use Rattle.lt_forest.specs.declared.part.Part.{Part}
 use Rattle.lt_forest.specs.declared.part.PartRow.{PartRow}
 use Rattle.lt_forest.specs.Counts.{one_if, times}
-use Rattle.lt_forest.specs.Parts.{row_pair}
 use Rattle.lt_rows.specs.declared.image.RowImage.{RowImage}
 use Rattle.lt_rows.specs.declared.view.View.{View}
 use Rattle.lt_rows.specs.Handles.{knows}

@@ -1,8 +1,7 @@
-use Rattle.std.proofs.Common.{reverse, take, get_or, ◌≡◌, ◌+◌, ◌∙◌, ℕ, List, [], ◌∷◌, ◌++◌, ap, sym, refl, subst, arith}
+use Rattle.std.proofs.Common.{reverse, take, get_or, ◌≡◌, ◌+◌, ◌∙◌, ℕ, List, [], ◌∷◌, ◌++◌, ap, sym, refl, subst}
 use Rattle.std.proofs.lemmas.List.{take_more, take_all}
 use Rattle.lt_forest.specs.declared.part.PartRow.{PartRow}
 use Rattle.lt_rows.specs.declared.image.RowImage.{RowImage}
-use Rattle.lt_rows.specs.Nodes.{node_of}
 use Rattle.lt_rows.proofs.ThreeRows.{is_left}
 use Rattle.lt_locktree.specs.Given.{Chains}
 use Rattle.lt_locktree.proofs.ChainLaws.{chains_none, chains_one}

@@ -1,9 +1,7 @@
-use Rattle.std.proofs.Common.{rules, ◌≡◌, ◌+◌, ◌<◌, [], length, refl, sym, ap, ◌∙◌, subst, arith}
+use Rattle.std.proofs.Common.{◌≡◌, ◌+◌, [], length, refl, sym, ◌∙◌, subst, arith}
 use Rattle.lt_forest.specs.declared.part.Part.{Part}
 use Rattle.lt_rows.specs.Handles.{knows}
-use Rattle.lt_tree.specs.Gathers.{IsClosed}
-use Rattle.lt_tree.proofs.ViewLaws.{rows_same, rows_on, refused_on}
-use Rattle.lt_locktree.specs.Leavings.{IsLeftOut}
+use Rattle.lt_tree.proofs.ViewLaws.{rows_same, rows_on}
 use Rattle.lt_locktree.proofs.GrownServed.{hangs_between}
 use Rattle.lt_locktree.proofs.leaving.leave_widened.Goals as goal
 
