@@ -21,3 +21,4 @@ pub mod ChainLaws
 pub mod LeavingLaws
 pub mod FreeServed
 pub mod JoinedParts
+pub mod NoneServed

@@ -1,5 +1,5 @@
 //! A free by which rows of a part go.
-ghost use Rattle.std.specs.Prelude.{◌≡◌, ◌+◌, ◌-◌, ◌^◌, ◌<◌, pos, ◌+ℤ◌, ℕ, List, All, IfOk, IfErr, true, false, length, map};
+ghost use Rattle.std.specs.Prelude.{◌≡◌, ◌+◌, ◌-◌, ◌^◌, ◌<◌, pos, ◌+ℤ◌, ℕ, List, [], All, IfOk, IfErr, true, false, length, map};
 ghost use Rattle.lt_seq.specs.declared.event.Deed.TheVariants.{Free};
 ghost use Rattle.lt_seq.specs.Pairs.{count_freed};
 ghost use Rattle.lt_forest.specs.declared.part.PartRow.{PartRow};
@@ -11,6 +11,7 @@ ghost use Rattle.lt_tree.specs.States.{HoldsNone, OnlyRows, IsRefused};
 ghost use Rattle.lt_tree.specs.Gathers.{IsLocked, IsLockedWith, IsClosed};
 ghost use Rattle.lt_tree.specs.Pools.{pool_rows};
 ghost use Rattle.lt_tree.specs.declared.pool.PoolRows.TheVariants.{Nothing};
+ghost use Rattle.lt_locktree.specs.LawsOfFrees.{freed_rows};
 ghost use Rattle.lt_locktree.specs.Makes.{IsOf, Makes};
 ghost use Rattle.lt_locktree.specs.Leavings.{IsLeftOut, PlansFreed};
 
@@ -114,6 +115,36 @@ pub fn free_rows<'a>(
     Ok((pass, Receipt { place, event }))
 }
 
+// Makes a free by which no row goes, by an event that ends the search.
+fn free_none<'a>(locked: Locked<'a>, asking: &Asking) -> (RowPass, Receipt)
+    requires fresh { (knows locked.pass).fresh ≡ true }
+    requires locked { IsLockedWith (knows locked.pass) locked.tree locked.asked locked.held locked.part.rows.items
+        locked.part.hangs.items (pool_rows (knows locked.pass).plan.trees locked.pool) }
+    requires closed { IsClosed locked.asked locked.part.rows.items locked.part.hangs.items }
+    requires asking { IsOf locked.pass locked.tree locked.asked asking.now }
+    requires none { freed_rows asking.now.txn asking.now.range locked.part.rows.items ≡ [] }
+    ensures of { IsPassOf locked.entry.table.now result.0 × IsSamePass locked.entry.pass result.0 × HoldsNone (knows result.0) }
+    ensures made { Makes (knows locked.entry.pass) (knows result.0) [] result.1.event result.1.place }
+    ensures event { result.1.event ≡ record {
+      pass = asking.now.pass;
+      txn = asking.now.txn;
+      deed = Free asking.now.tree asking.now.range false 0;
+    } }
+{
+    let event = Event {
+        pass: asking.pass,
+        txn: asking.txn,
+        deed: Deed::Free {
+            tree: asking.tree,
+            range: asking.range,
+            first: false,
+            count: 0,
+        },
+    };
+    let (pass, place) = locked.finish(&[], &event, 0);
+    (pass, Receipt { place, event })
+}
+
 /// Frees the range for the transaction, by an event that ends the search. Where two links would come to hang side by side, the part is
 /// widened first. No score rises by it.
 ///
@@ -144,6 +175,7 @@ pub fn free_in_tree<'a>(
 {
     let mut locked = locked;
     match leave_widened(alloc, &mut locked, asking) {
+        Ok(left) if left.gone.is_empty() => Ok(free_none(locked, asking)),
         Ok(left) => free_rows(alloc, locked, asking, &left),
         Err(fault) => Err((locked.release(), fault)),
     }

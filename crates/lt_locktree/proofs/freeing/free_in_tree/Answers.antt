@@ -12,8 +12,8 @@ ok_map : {T E : Type 0} (r : Result T E) (P Q : T → Type 0) → ((x : T) → P
 ok_map (Ok x) P Q f h = f x h
 ok_map (Err e) P Q f h = tt
 
-pub returns-in-Ok-clause-made : goal.returns-in-Ok-clause-made
-returns-in-Ok-clause-made c =
+pub returns-in-Ok-2-clause-made : goal.returns-in-Ok-2-clause-made
+returns-in-Ok-2-clause-made c =
     let v : View = knows c.args.locked.pass in
     let w : View = knows c.leave_widened.new.locked.pass in
     ok_map c.free_rows.result
