@@ -83,7 +83,8 @@ pub fn free_rows<'a>(
     ensures event { IfOk result (λ r. r.1.event ≡ record {
       pass = asking.now.pass;
       txn = asking.now.txn;
-      deed = Free asking.now.tree asking.now.range false (count_freed asking.now.txn asking.now.range (map row_pair locked.entry.part.rows.items));
+      deed = Free asking.now.tree asking.now.range false
+          (count_freed asking.now.txn asking.now.range (map row_pair locked.entry.part.rows.items));
     }) }
     ensures handed { IfErr result (λ r. IsPassOf locked.entry.table.now r.0 × IsSamePass locked.entry.pass r.0 × HoldsNone (knows r.0)
         × OnlyRows (knows locked.entry.pass) (knows r.0)) }
