@@ -1,3 +1,4 @@
+pub mod OpeningLaws
 pub mod HeldParts
 pub mod Unchanged
 pub mod Grants

@@ -11,3 +11,4 @@ pub mod LawsOfFrees
 pub mod LawsOfFreePlans
 pub mod Leavings
 pub mod LawsOfJoins
+pub mod Calls

@@ -1,6 +1,7 @@
 //! What is asked of a tree of shared rows, from what a search holds: each event as the plan that its commit takes.
 #![tactic(auto)]
 
+mod answers;
 mod asking;
 mod drawing;
 mod freeing;
@@ -9,15 +10,20 @@ mod growing;
 mod inserting;
 pub mod laws;
 mod leaving;
+mod locktree;
 mod owners;
 mod planning;
 mod questions;
+mod tree_pass;
 
+pub use answers::{Asked, Named};
 pub use asking::Asking;
 pub use freeing::{free_in_tree, free_rows, plan_freed};
 pub use growing::{grow_row, plan_grown};
 pub use inserting::plan_put_in;
 pub use leaving::{Leaving, LeftOut, leave_out, leave_widened};
+pub use locktree::Locktree;
 pub use owners::owners_of;
 pub use planning::plan_rows;
 pub use questions::{ask_who, refuse_ask};
+pub use tree_pass::TreePass;
