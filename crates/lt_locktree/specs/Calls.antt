@@ -5,11 +5,12 @@ use Rattle.lt_seq.specs.declared.event.Deed.TheVariants.{Join}
 use Rattle.lt_seq.specs.declared.event.Event.{Event}
 use Rattle.lt_seq.specs.declared.event.JoinNote.{JoinNote}
 use Rattle.lt_seq.specs.declared.fault.Fault.{Fault}
-use Rattle.lt_seq.specs.History.{IsLegal, calls_from}
+use Rattle.lt_seq.specs.History.{IsLegal}
 use Rattle.lt_seq.specs.SeqPass.{plain}
 use Rattle.lt_seq.specs.Yard.{note_after}
 use Rattle.lt_rows.specs.declared.view.View.{View}
 use Rattle.lt_rows.specs.Handles.{knows, IsPassOf}
+use Rattle.lt_rows.specs.Rule.{IsOfOthers}
 use Rattle.lt_tree.specs.States.{IsRefused}
 use Rattle.lt_locktree.specs.declared.locktree.Locktree.{Locktree}
 use Rattle.lt_locktree.specs.declared.tree_pass.TreePass.{TreePass}
@@ -46,10 +47,6 @@ front_of_first (p ∷ passes) = (sees p).front
 -- the event of a pass with this view
 abbrev pub event_of : View → ℕ → Deed → Event
 event_of v txn deed = record { pass = v.mark - 1; txn = txn; deed = deed }
-
--- none of the events is the pass's own
-abbrev pub IsOfOthers : View → List Event → Type 0
-IsOfOthers v rest = (place : ℕ) → calls_from place (v.mark - 1) rest ≡ []
 
 -- A deed with one event: behind all that was new to the pass stands the event, and the history with it is legal.
 pub record Makes (v w : View) (txn : ℕ) (deed : Deed) (place : ℕ) : Type 0 where

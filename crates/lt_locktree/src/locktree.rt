@@ -1,7 +1,10 @@
 //! The lock table of trees of shared rows.
-ghost use Rattle.std.specs.Prelude.{◌≡◌, ◌+◌, ◌<◌, ◌≤◌, map, IfOk};
+ghost use Rattle.std.specs.Prelude.{◌≡◌, ◌++◌, ◌<◌, ◌≤◌, List, map, IfOk};
+ghost use Rattle.lt_seq.specs.declared.event.Event.{Event};
+ghost use Rattle.lt_seq.specs.History.{IsFront};
 ghost use Rattle.lt_seq.specs.Yard.{IsPlan};
 ghost use Rattle.lt_rows.specs.Views.{sharer, learner};
+ghost use Rattle.lt_rows.specs.Rule.{IsOfOthers};
 ghost use Rattle.lt_rows.specs.Passes.{view};
 ghost use Rattle.lt_rows.specs.Openings.{AreItsPasses};
 ghost use Rattle.lt_rows.specs.Closings.{IsLeft};
@@ -83,12 +86,15 @@ impl Locktree {
         self.rows.share(&mut pass.pass, rights)
     }
 
-    /// Takes in the rights of a note, and the longer of the two fronts. With all the rights before, the front stays.
+    /// Takes in the rights of a note, and the longer of the two fronts, which goes on as the other, by what others made. With all
+    /// the rights before, the front stays.
     pub fn learn(&self, pass: &mut TreePass, note: RowNote)
         requires of { IsOfTable self.now pass.old × IsNoteOf self.now.rows note }
         ensures of { IsOfTable self.now pass.new }
         ensures learned { sees pass.new ≡ learner (sees pass.old) (view note.place) }
         ensures all { (sees pass.old).rights ≡ self.now.rows.plan.passes → (sees pass.new).front ≡ (sees pass.old).front }
+        ensures told { IsFront (view note.place).front (sees pass.new).front }
+        ensures more { (more : List Event) × ((sees pass.new).front ≡ (sees pass.old).front ++ more) × IsOfOthers (sees pass.old) more }
     {
         self.rows.learn(&mut pass.pass, note);
     }
