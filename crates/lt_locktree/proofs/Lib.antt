@@ -23,3 +23,4 @@ pub mod LeavingLaws
 pub mod FreeServed
 pub mod JoinedParts
 pub mod NoneServed
+pub mod CallLaws

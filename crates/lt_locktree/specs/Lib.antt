@@ -12,3 +12,4 @@ pub mod LawsOfFreePlans
 pub mod Leavings
 pub mod LawsOfJoins
 pub mod Calls
+pub mod LawsOfCalls

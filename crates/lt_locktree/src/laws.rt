@@ -1,4 +1,5 @@
 //! Laws of what is asked of a tree. Each function's contract is a law over the definitions; the bodies are empty.
+ghost use Rattle.lt_locktree.specs.LawsOfCalls.{MakesOneCall, MakesNext};
 ghost use Rattle.lt_locktree.specs.LawsOfDeeds.{WhoCommits, HeldAskCommits};
 ghost use Rattle.lt_locktree.specs.LawsOfFrees.{FreeCommits, NoneFreedCommits};
 ghost use Rattle.lt_locktree.specs.LawsOfFreePlans.{FreePlanCommits};
@@ -41,4 +42,10 @@ pub fn plans_of_frees()
 /// A join is a commit of a plan in which each longest run of neighbours of one owner becomes one row.
 pub fn joins_are_made()
     ensures { JoinCommits }
+{}
+
+/// A deed's event is one call more of its pass, and its replies are the sequential table's, behind what was new to the pass.
+pub fn deeds_are_calls()
+    ensures call { MakesOneCall }
+    ensures next { MakesNext }
 {}
