@@ -1,0 +1,6 @@
+//! The lock table that threads share, with the receipts and notes that its passes keep.
+#![tactic(auto)]
+
+mod manager_pass;
+
+pub use manager_pass::ManagerPass;
