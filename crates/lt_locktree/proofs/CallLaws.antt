@@ -1,16 +1,14 @@
 -- What a deed comes to in the words of a yard.
-use Rattle.std.proofs.Common.{◌≡◌, ℕ, ◌+◌, ◌-◌, ◌≤◌, List, [], ◌∷◌, ◌++◌, length, fold, refl, sym, ap, ◌∙◌, subst, arith, append-nil}
+use Rattle.std.proofs.Common.{◌≡◌, ℕ, ◌+◌, ◌-◌, List, [], ◌∷◌, ◌++◌, length, fold, refl, sym, ap, ◌∙◌, subst, arith, append-nil}
 use Rattle.std.proofs.lemmas.Bool.Decides.{nat_tests}
-use Rattle.lt_seq.specs.declared.event.Deed.{Deed}
 use Rattle.lt_seq.specs.declared.event.Event.{Event}
 use Rattle.lt_seq.specs.declared.event.Receipt.{Receipt}
 use Rattle.lt_seq.specs.Table.{Setting, TreeState, opening, step}
 use Rattle.lt_seq.specs.History.{after, calls_from, IsNext, IsLegal, IsLegalFrom}
 use Rattle.lt_seq.specs.SeqPass.{plain}
 use Rattle.lt_seq.proofs.HistoryLaws.{calls-append, calls_more}
-use Rattle.lt_rows.specs.declared.view.View.{View}
 use Rattle.lt_rows.specs.Rule.{NoneOf}
-use Rattle.lt_locktree.specs.Calls.{Makes, event_of}
+use Rattle.lt_locktree.specs.Calls.{event_of}
 use Rattle.lt_locktree.specs.LawsOfCalls.{MakesOneCall, MakesNext}
 
 -- no call of a pass is among what others made
