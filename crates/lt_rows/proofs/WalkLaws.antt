@@ -1,5 +1,5 @@
 -- Steps of the walks through the last rows.
-use Rattle.std.proofs.Common.{◌≡◌, ◌≢◌, ◌⊎◌, ℕ, zero, suc, ◌+◌, ◌-◌, ◌*◌, ◌<◌, ◌≤◌, List, [], ◌∷◌, ◌++◌, map, length, refl, sym, ap, ◌∙◌, subst, arith, append_assoc, length-append, inl, inr}
+use Rattle.std.proofs.Common.{◌≡◌, ◌≢◌, ◌⊎◌, ℕ, ◌+◌, ◌-◌, ◌*◌, ◌<◌, ◌≤◌, List, [], ◌∷◌, ◌++◌, map, length, refl, sym, ap, ◌∙◌, subst, arith, append_assoc, length-append, inl, inr}
 use Rattle.std.proofs.lemmas.List.{append-nil, map-append, length-map}
 use Rattle.lt_ranges.specs.Interval.{Interval, IsInterval}
 use Rattle.lt_seq.specs.declared.event.Pair.{Pair}
@@ -8,11 +8,8 @@ use Rattle.std.specs.Prelude.{not}
 use Rattle.lt_seq.specs.Pairs.{granted, freed, is_own}
 use Rattle.lt_seq.specs.Sound.{AllOwn}
 use Rattle.lt_seq.specs.Table.{held_in}
-use Rattle.lt_seq.specs.Table.{TreeState, tree_at}
-use Rattle.lt_seq.specs.Passes.{held_from}
 use Rattle.lt_seq.proofs.SpanLaws.{lawful-granted}
 use Rattle.lt_seq.proofs.LawfulLaws.{own-filter, own-with_pair, others_none}
-use Rattle.lt_forest.specs.Counts.{times}
 use Rattle.lt_forest.specs.Trees.{Tree, leaf, node, Nodes, LeadsTo, in_order, pair_of, pairs_in}
 use Rattle.lt_forest.specs.Forest.{IsChain, folded}
 use Rattle.lt_rows.specs.LastWords.{AllBelow, AreRows}

@@ -1,7 +1,7 @@
-use Rattle.std.proofs.Common.{◌≡◌, ◌≢◌, ap, subst, ◌∙◌, sym, ◌++◌}
+use Rattle.std.proofs.Common.{◌≢◌, ap, subst, ◌∙◌, sym, ◌++◌}
 use Rattle.lt_seq.specs.Table.{held_in}
 use Rattle.lt_forest.specs.Forest.{IsChain, folded}
-use Rattle.lt_forest.specs.Trees.{LeadsTo, pairs_in, Tree}
+use Rattle.lt_forest.specs.Trees.{LeadsTo}
 use Rattle.lt_rows.specs.Nodes.{node_of}
 use Rattle.lt_rows.specs.LastWords.{nodes_in, LeadsToTree, LeadsToChain}
 use Rattle.lt_rows.proofs.LeftLaws.{on_ok, leads_to_tree, leads_to_chain, tree_left, chain_left}
