@@ -63,3 +63,7 @@ drop_all-requires-clause-event c =
     (λ j. (number j, sym c.deref.ensures.value j))
     (frees_there c.number.result c.args.tree c.len.result (knows c.load_row-anchor.new.pass) (knows c.to_pairs.new.pass) (knows c.look-look.new.pass) c.in-Ok.read.rows.items c.load_row-anchor.result.words c.in-Ok.read.pairs.items c.whole.result
     b3 words c.in-Ok.ensures.kept (ap (λ (v : View). v.held) c.look-look.ensures.looks.view) c.in-Ok.ensures.pairs.granted count c.whole.ensures)
+
+pub put_chain-requires-clause-backs : goal.put_chain-requires-clause-backs
+put_chain-requires-clause-backs c =
+    (chain_looked (knows c.to_pairs.new.pass) (knows c.look-look.new.pass) c.args.tree c.in-Ok.read.rows.items (ap (λ (v : View). v.held) c.look-look.ensures.looks.view) c.in-Ok.ensures.chain).backs
