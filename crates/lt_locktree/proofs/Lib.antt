@@ -24,3 +24,4 @@ pub mod FreeServed
 pub mod JoinedParts
 pub mod NoneServed
 pub mod CallLaws
+pub mod EndingLaws

@@ -13,3 +13,4 @@ pub mod Leavings
 pub mod LawsOfJoins
 pub mod Calls
 pub mod LawsOfCalls
+pub mod Endings

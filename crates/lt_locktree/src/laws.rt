@@ -1,6 +1,7 @@
 //! Laws of what is asked of a tree. Each function's contract is a law over the definitions; the bodies are empty.
 ghost use Rattle.lt_locktree.specs.LawsOfCalls.{MakesOneCall, MakesNext};
 ghost use Rattle.lt_locktree.specs.LawsOfDeeds.{WhoCommits, HeldAskCommits};
+ghost use Rattle.lt_locktree.specs.Endings.{HeldAskEndsBuffer, LaidBufferCommits, WhoEndsBuffer};
 ghost use Rattle.lt_locktree.specs.LawsOfFrees.{FreeCommits, NoneFreedCommits};
 ghost use Rattle.lt_locktree.specs.LawsOfFreePlans.{FreePlanCommits};
 ghost use Rattle.lt_locktree.specs.LawsOfGrants.{MergedAskCommits, PutInAskCommits};
@@ -48,4 +49,11 @@ pub fn joins_are_made()
 pub fn deeds_are_calls()
     ensures call { MakesOneCall }
     ensures next { MakesNext }
+{}
+
+/// An event that ends a buffer is a commit of a plan that lays the pairs after it out as a tree.
+pub fn buffers_are_laid_out()
+    ensures laid { LaidBufferCommits }
+    ensures who { WhoEndsBuffer }
+    ensures held { HeldAskEndsBuffer }
 {}

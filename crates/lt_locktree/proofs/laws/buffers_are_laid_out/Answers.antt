@@ -1,0 +1,11 @@
+use Rattle.lt_locktree.proofs.EndingLaws.{laid_buffer_commits, who_ends_buffer, held_ask_ends_buffer}
+use Rattle.lt_locktree.proofs.laws.buffers_are_laid_out.Goals as goal
+
+pub returns-clause-laid : goal.returns-clause-laid
+returns-clause-laid c = laid_buffer_commits
+
+pub returns-clause-who : goal.returns-clause-who
+returns-clause-who c = who_ends_buffer
+
+pub returns-clause-held : goal.returns-clause-held
+returns-clause-held c = held_ask_ends_buffer

@@ -1,0 +1,90 @@
+-- An event that ends a buffer: the pairs after it are laid out as a tree.
+use Rattle.std.specs.Prelude.{◌≡◌, ◌≢◌, ℕ, ℤ, pos, ◌+ℤ◌, ◌+◌, ◌<◌, List, [], ◌∷◌, ◌++◌, map, length, true, false}
+use Rattle.lt_ranges.specs.Interval.{Interval, IsInterval}
+use Rattle.lt_seq.specs.declared.event.Pair.{Pair}
+use Rattle.lt_seq.specs.declared.event.Event.{Event}
+use Rattle.lt_seq.specs.declared.event.Mode.TheVariants.{Tree as TreeMode, Buffer}
+use Rattle.lt_seq.specs.declared.event.Deed.TheVariants.{Ask, Who}
+use Rattle.lt_seq.specs.declared.event.Reply.TheVariants.{HeldBy}
+use Rattle.lt_seq.specs.History.{IsQuestion}
+use Rattle.lt_seq.specs.Pairs.{others}
+use Rattle.lt_seq.specs.SeqPass.{plain}
+use Rattle.lt_seq.specs.Table.{tree_of, tree_after, replied, is_buffered}
+use Rattle.lt_forest.specs.declared.part.PartRow.{PartRow}
+use Rattle.lt_forest.specs.Counts.{times}
+use Rattle.lt_forest.specs.Cuts.{Cut, Shows, links}
+use Rattle.lt_forest.specs.Forest.{IsChain, IsTree, folded}
+use Rattle.lt_forest.specs.Parts.{rows_of, row_pair, numbers}
+use Rattle.lt_forest.specs.Buffers.{buffered_state}
+use Rattle.lt_forest.specs.Views.{IsIn, AllHeld, PlansOnly, PoolPlan}
+use Rattle.lt_rows.specs.declared.image.RowImage.{RowImage}
+use Rattle.lt_rows.specs.declared.view.View.{View}
+use Rattle.lt_rows.specs.Nodes.{mode_of}
+use Rattle.lt_rows.specs.Views.{has, images, planned_rows}
+use Rattle.lt_rows.specs.Lawful.{shown, shown_after, mode_after, IsCommit}
+
+-- the tree's anchor, which shows the buffer of this owner, and all rows of its chain are held
+pub record HoldsBuffer (v : View) (tree owner count : ℕ) (olds : List ℕ) : Type 0 where
+  pub mode : mode_of (images v tree) ≡ Buffer owner count
+  pub chain : IsChain (shown v []) (shown v [] tree).left olds
+  pub held : AllHeld (IsIn (has v)) (tree ∷ olds)
+
+-- The buffer's pairs, in key order.
+abbrev pub buffered_pairs : View → ℕ → List ℕ → List Pair
+buffered_pairs v owner olds = folded owner (shown v []) olds
+
+-- below the anchor the plan's images show a whole tree of these rows, in key order
+pub record LaysTree (v : View) (plan : List RowImage) (tree : ℕ) (rows : List PartRow) : Type 0 where
+  pub new : Cut
+  pub shows : Shows (shown_after v plan) (shown_after v plan tree).left new
+  pub no_hangs : links new ≡ []
+  pub rows_are : rows_of (shown_after v plan) new ≡ rows
+
+-- these rows stand where the buffer's rows did: some are taken from the pool, and some are given to it
+pub record TakeOver (olds : List ℕ) (rows : List PartRow) (taken given : List ℕ) : Type 0 where
+  pub each : (q : ℕ) → times q (numbers rows) + times q given ≡ times q olds + times q taken
+  pub all : length rows + length given ≡ length olds + length taken
+
+-- A plan that lays out the pairs that the sequential table has after the event is one that a commit takes.
+abbrev pub LaidBufferCommits : Type 0
+LaidBufferCommits =
+    (v : View) (owner count : ℕ) (olds taken given : List ℕ) (rows : List PartRow) (plan : List RowImage) (e : Event) (change : ℤ)
+    → HoldsBuffer v (tree_of e.deed) owner count olds → tree_of e.deed < v.plan.trees → IsQuestion e.deed
+    → LaysTree v plan (tree_of e.deed) rows → TakeOver olds rows taken given
+    → PoolPlan (IsIn (has v)) (planned_rows plan) v.plan.trees (shown v plan) (shown_after v plan) taken given
+    → PlansOnly (tree_of e.deed ∷ v.plan.trees ∷ olds ++ taken) (planned_rows plan)
+    → map row_pair rows ≡ (tree_after (plain v.plan) e.txn e.deed (buffered_state owner count (shown v []) olds)).pairs
+    → IsTree (mode_after v plan (tree_of e.deed))
+    → mode_after v plan (tree_of e.deed) ≡ (tree_after (plain v.plan) e.txn e.deed (buffered_state owner count (shown v []) olds)).mode
+    → replied (plain v.plan) e.txn e.deed (buffered_state owner count (shown v []) olds) ≡ e.deed
+    → e.pass + 1 ≡ v.mark → change +ℤ pos (length olds) ≡ pos (length rows) → (length olds < length rows → v.licensed ≡ true)
+    → IsCommit v.plan v e plan change
+
+-- Someone asks who holds against another than the owner: the pairs stay, and the score begins at 0.
+abbrev pub WhoEndsBuffer : Type 0
+WhoEndsBuffer =
+    (v : View) (tree owner count : ℕ) (asked : Interval) (named : ℕ) (olds given : List ℕ) (rows : List PartRow)
+    (plan : List RowImage) (e : Event) (change : ℤ)
+    → HoldsBuffer v tree owner count olds → tree < v.plan.trees → IsInterval asked → owner ≢ named
+    → LaysTree v plan tree rows → TakeOver olds rows [] given
+    → PoolPlan (IsIn (has v)) (planned_rows plan) v.plan.trees (shown v plan) (shown_after v plan) [] given
+    → PlansOnly (tree ∷ v.plan.trees ∷ olds ++ []) (planned_rows plan)
+    → map row_pair rows ≡ buffered_pairs v owner olds → mode_after v plan tree ≡ TreeMode 0
+    → e.deed ≡ Who tree asked named (others named asked (map row_pair rows))
+    → e.pass + 1 ≡ v.mark → change +ℤ pos (length olds) ≡ pos (length rows)
+    → IsCommit v.plan v e plan change
+
+-- An ask is held by others than its transaction. It is of another than the owner, or the buffer is full.
+abbrev pub HeldAskEndsBuffer : Type 0
+HeldAskEndsBuffer =
+    (v : View) (tree owner count : ℕ) (asked : Interval) (holder : ℕ) (holders : List ℕ) (olds given : List ℕ) (rows : List PartRow)
+    (plan : List RowImage) (e : Event) (change : ℤ)
+    → HoldsBuffer v tree owner count olds → tree < v.plan.trees → IsInterval asked
+    → is_buffered v.plan.buffer e.txn (buffered_pairs v owner olds) (Buffer owner count) ≡ false
+    → LaysTree v plan tree rows → TakeOver olds rows [] given
+    → PoolPlan (IsIn (has v)) (planned_rows plan) v.plan.trees (shown v plan) (shown_after v plan) [] given
+    → PlansOnly (tree ∷ v.plan.trees ∷ olds ++ []) (planned_rows plan)
+    → map row_pair rows ≡ buffered_pairs v owner olds → mode_after v plan tree ≡ TreeMode 0
+    → others e.txn asked (map row_pair rows) ≡ holder ∷ holders → e.deed ≡ Ask tree asked (HeldBy (holder ∷ holders))
+    → e.pass + 1 ≡ v.mark → change +ℤ pos (length olds) ≡ pos (length rows)
+    → IsCommit v.plan v e plan change
