@@ -2,12 +2,13 @@
 use Rattle.std.proofs.Common.{◌≡◌, ℕ, zero, suc, ◌+◌, ◌<◌, ◌⊎◌, inl, inr, List, [], ◌∷◌, ◌++◌, map, length, refl, sym, ap, ◌∙◌, subst, arith, Bool, ne_eqb}
 use Rattle.std.specs.Prelude.{ℤ, pos, ◌+ℤ◌, if◌then◌else◌}
 use Rattle.lt_seq.specs.declared.event.Deed.{Deed}
-use Rattle.lt_seq.specs.declared.event.Deed.TheVariants.{Ask, Who}
+use Rattle.lt_seq.specs.declared.event.Deed.TheVariants.{Ask, Free, Who, Join}
 use Rattle.lt_seq.specs.declared.event.Mode.TheVariants.{Tree as TreeMode, Buffer}
 use Rattle.lt_seq.specs.declared.event.Pair.{Pair}
-use Rattle.lt_seq.specs.declared.event.Reply.TheVariants.{Buffered, HeldBy}
-use Rattle.lt_seq.specs.Pairs.{others, granted}
-use Rattle.lt_seq.specs.Table.{TreeState, tree_of, after_ask, pairs_by, reply_by}
+use Rattle.lt_seq.specs.declared.event.Reply.TheVariants.{Granted, Buffered, HeldBy}
+use Rattle.lt_seq.specs.Pairs.{others, granted, freed, count_freed, joined}
+use Rattle.lt_seq.specs.SeqPass.{plain}
+use Rattle.lt_seq.specs.Table.{TreeState, tree_of, fresh, after_ask, after_free, pairs_by, reply_by, raised}
 use Rattle.lt_forest.specs.declared.part.PartRow.{PartRow}
 use Rattle.lt_forest.specs.Counts.{times}
 use Rattle.lt_forest.specs.Trees.{Nodes, in_order}
@@ -20,7 +21,7 @@ use Rattle.lt_forest.proofs.RowsAndHangs.{numbers_of}
 use Rattle.lt_rows.specs.declared.view.View.{View}
 use Rattle.lt_rows.specs.Views.{has}
 use Rattle.lt_rows.specs.Lawful.{shown_after, ends_buffer, IsCommit}
-use Rattle.lt_locktree.specs.Endings.{HoldsBuffer, LaysTree, TakeOver, buffered_pairs, LaidBufferCommits, WhoEndsBuffer, HeldAskEndsBuffer}
+use Rattle.lt_locktree.specs.Endings.{HoldsBuffer, LaysTree, TakeOver, buffered_pairs, LaidBufferCommits, WhoEndsBuffer, HeldAskEndsBuffer, GrantedAskEndsBuffer, FreeEndsBuffer, JoinEndsBuffer}
 use Rattle.lt_locktree.proofs.GrantedRuns.{length-numbers}
 
 -- the rows that are taken from the pool are held
@@ -116,3 +117,57 @@ held_ask_ends_buffer v tree owner count asked holder holders olds given rows pla
     ∙ ap (λ (os : List ℕ). Ask tree asked (reply_by os)) by)
     pass change_is
     (λ more. absurd (let a = over.all in omega arith)))
+
+pub granted_ask_ends_buffer : GrantedAskEndsBuffer
+granted_ask_ends_buffer v tree owner count asked olds taken given rows plan e change buffer lt interval full lays over pool only pairs now alone is pass
+    change_is licence =
+    let deed : Deed = Ask tree asked Granted in
+    let ps : List Pair = buffered_pairs v owner olds in
+    let state : TreeState = record { pairs = ps; mode = Buffer owner count } in
+    let after : after_ask v.plan.buffer e.txn asked state ≡ record { pairs = granted e.txn asked ps; mode = TreeMode 0 } =
+    ap (λ (b : Bool). if b then record { pairs = granted e.txn asked ps; mode = Buffer e.txn (count + 1) }
+    else record { pairs = pairs_by (others e.txn asked ps) e.txn asked ps; mode = TreeMode 0 }) full
+    ∙ ap (λ (os : List ℕ). record { pairs = pairs_by os e.txn asked ps; mode = TreeMode 0 }) alone in
+    subst (λ (d : Deed). IsCommit v.plan v (record { pass = e.pass; txn = e.txn; deed = d }) plan change) (sym is)
+    (laid_buffer_commits v owner count olds taken given rows plan (record { pass = e.pass; txn = e.txn; deed = deed }) change
+    buffer lt interval lays over pool only
+    (pairs ∙ sym (ap (λ (t : TreeState). t.pairs) after))
+    (subst IsTree (sym now) tt)
+    (now ∙ sym (ap (λ (t : TreeState). t.mode) after))
+    (ap (λ (b : Bool). Ask tree asked (if b then Buffered else reply_by (others e.txn asked ps))) full
+    ∙ ap (λ (os : List ℕ). Ask tree asked (reply_by os)) alone)
+    pass change_is licence)
+
+pub free_ends_buffer : FreeEndsBuffer
+free_ends_buffer v tree owner count asked first olds taken given rows plan e change buffer lt interval part lays over pool only pairs now is pass
+    change_is licence =
+    let ps : List Pair = buffered_pairs v owner olds in
+    let deed : Deed = Free tree asked first (count_freed e.txn asked ps) in
+    let state : TreeState = record { pairs = ps; mode = Buffer owner count } in
+    let after : after_free e.txn asked first state ≡ record { pairs = freed e.txn asked ps; mode = raised first (TreeMode 0) } =
+    ap (λ (b : Bool). if b then fresh else record { pairs = freed e.txn asked ps; mode = raised first (TreeMode 0) }) part in
+    subst (λ (d : Deed). IsCommit v.plan v (record { pass = e.pass; txn = e.txn; deed = d }) plan change) (sym is)
+    (laid_buffer_commits v owner count olds taken given rows plan (record { pass = e.pass; txn = e.txn; deed = deed }) change
+    buffer lt interval lays over pool only
+    (pairs ∙ sym (ap (λ (t : TreeState). t.pairs) after))
+    (subst IsTree (sym now) tt)
+    (now ∙ sym (ap (λ (t : TreeState). t.mode) after))
+    (ap (λ (b : Bool). Free tree asked first (if b then length ps else count_freed e.txn asked ps)) part)
+    pass change_is licence)
+
+length-pairs : (rows : List PartRow) → length (map row_pair rows) ≡ length rows
+length-pairs [] = refl
+length-pairs (r ∷ rows) = ap (λ (n : ℕ). suc n) (length-pairs rows)
+
+pub join_ends_buffer : JoinEndsBuffer
+join_ends_buffer v tree owner count olds taken given rows plan e change buffer lt lays over pool only pairs now is pass change_is licence =
+    let ps : List Pair = buffered_pairs v owner olds in
+    let deed : Deed = Join tree (length ps) (length rows) in
+    let long : length rows ≡ length (joined (plain v.plan).marks ps) = sym (length-pairs rows) ∙ ap length pairs in
+    subst (λ (d : Deed). IsCommit v.plan v (record { pass = e.pass; txn = e.txn; deed = d }) plan change) (sym is)
+    (laid_buffer_commits v owner count olds taken given rows plan (record { pass = e.pass; txn = e.txn; deed = deed }) change
+    buffer lt tt lays over pool only pairs
+    (subst IsTree (sym now) tt)
+    now
+    (ap (λ (n : ℕ). Join tree (length ps) n) (sym long))
+    pass change_is licence)

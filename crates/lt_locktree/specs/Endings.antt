@@ -1,15 +1,15 @@
 -- An event that ends a buffer: the pairs after it are laid out as a tree.
-use Rattle.std.specs.Prelude.{◌≡◌, ◌≢◌, ℕ, ℤ, pos, ◌+ℤ◌, ◌+◌, ◌<◌, List, [], ◌∷◌, ◌++◌, map, length, true, false}
+use Rattle.std.specs.Prelude.{◌≡◌, ◌≢◌, ℕ, ℤ, pos, ◌+ℤ◌, ◌+◌, ◌<◌, List, [], ◌∷◌, ◌++◌, map, length, Bool, true, false}
 use Rattle.lt_ranges.specs.Interval.{Interval, IsInterval}
 use Rattle.lt_seq.specs.declared.event.Pair.{Pair}
 use Rattle.lt_seq.specs.declared.event.Event.{Event}
 use Rattle.lt_seq.specs.declared.event.Mode.TheVariants.{Tree as TreeMode, Buffer}
-use Rattle.lt_seq.specs.declared.event.Deed.TheVariants.{Ask, Who}
-use Rattle.lt_seq.specs.declared.event.Reply.TheVariants.{HeldBy}
+use Rattle.lt_seq.specs.declared.event.Deed.TheVariants.{Ask, Free, Who, Join}
+use Rattle.lt_seq.specs.declared.event.Reply.TheVariants.{Granted, HeldBy}
 use Rattle.lt_seq.specs.History.{IsQuestion}
-use Rattle.lt_seq.specs.Pairs.{others}
+use Rattle.lt_seq.specs.Pairs.{others, granted, freed, count_freed, joined}
 use Rattle.lt_seq.specs.SeqPass.{plain}
-use Rattle.lt_seq.specs.Table.{tree_of, tree_after, replied, is_buffered}
+use Rattle.lt_seq.specs.Table.{tree_of, tree_after, replied, is_buffered, drops_all, raised}
 use Rattle.lt_forest.specs.declared.part.PartRow.{PartRow}
 use Rattle.lt_forest.specs.Counts.{times}
 use Rattle.lt_forest.specs.Cuts.{Cut, Shows, links}
@@ -87,4 +87,47 @@ HeldAskEndsBuffer =
     → map row_pair rows ≡ buffered_pairs v owner olds → mode_after v plan tree ≡ TreeMode 0
     → others e.txn asked (map row_pair rows) ≡ holder ∷ holders → e.deed ≡ Ask tree asked (HeldBy (holder ∷ holders))
     → e.pass + 1 ≡ v.mark → change +ℤ pos (length olds) ≡ pos (length rows)
+    → IsCommit v.plan v e plan change
+
+-- An ask of which nobody else's row overlaps is granted. Where the rows grow by one, the pass is licensed.
+abbrev pub GrantedAskEndsBuffer : Type 0
+GrantedAskEndsBuffer =
+    (v : View) (tree owner count : ℕ) (asked : Interval) (olds taken given : List ℕ) (rows : List PartRow)
+    (plan : List RowImage) (e : Event) (change : ℤ)
+    → HoldsBuffer v tree owner count olds → tree < v.plan.trees → IsInterval asked
+    → is_buffered v.plan.buffer e.txn (buffered_pairs v owner olds) (Buffer owner count) ≡ false
+    → LaysTree v plan tree rows → TakeOver olds rows taken given
+    → PoolPlan (IsIn (has v)) (planned_rows plan) v.plan.trees (shown v plan) (shown_after v plan) taken given
+    → PlansOnly (tree ∷ v.plan.trees ∷ olds ++ taken) (planned_rows plan)
+    → map row_pair rows ≡ granted e.txn asked (buffered_pairs v owner olds) → mode_after v plan tree ≡ TreeMode 0
+    → others e.txn asked (buffered_pairs v owner olds) ≡ [] → e.deed ≡ Ask tree asked Granted
+    → e.pass + 1 ≡ v.mark → change +ℤ pos (length olds) ≡ pos (length rows) → (length olds < length rows → v.licensed ≡ true)
+    → IsCommit v.plan v e plan change
+
+-- A free that isn't the drop of the whole buffer: what the transaction holds inside goes, and a release's first one raises the score.
+abbrev pub FreeEndsBuffer : Type 0
+FreeEndsBuffer =
+    (v : View) (tree owner count : ℕ) (asked : Interval) (first : Bool) (olds taken given : List ℕ) (rows : List PartRow)
+    (plan : List RowImage) (e : Event) (change : ℤ)
+    → HoldsBuffer v tree owner count olds → tree < v.plan.trees → IsInterval asked
+    → drops_all e.txn asked (Buffer owner count) ≡ false
+    → LaysTree v plan tree rows → TakeOver olds rows taken given
+    → PoolPlan (IsIn (has v)) (planned_rows plan) v.plan.trees (shown v plan) (shown_after v plan) taken given
+    → PlansOnly (tree ∷ v.plan.trees ∷ olds ++ taken) (planned_rows plan)
+    → map row_pair rows ≡ freed e.txn asked (buffered_pairs v owner olds) → mode_after v plan tree ≡ raised first (TreeMode 0)
+    → e.deed ≡ Free tree asked first (count_freed e.txn asked (buffered_pairs v owner olds))
+    → e.pass + 1 ≡ v.mark → change +ℤ pos (length olds) ≡ pos (length rows) → (length olds < length rows → v.licensed ≡ true)
+    → IsCommit v.plan v e plan change
+
+-- A join of the whole tree.
+abbrev pub JoinEndsBuffer : Type 0
+JoinEndsBuffer =
+    (v : View) (tree owner count : ℕ) (olds taken given : List ℕ) (rows : List PartRow) (plan : List RowImage) (e : Event) (change : ℤ)
+    → HoldsBuffer v tree owner count olds → tree < v.plan.trees
+    → LaysTree v plan tree rows → TakeOver olds rows taken given
+    → PoolPlan (IsIn (has v)) (planned_rows plan) v.plan.trees (shown v plan) (shown_after v plan) taken given
+    → PlansOnly (tree ∷ v.plan.trees ∷ olds ++ taken) (planned_rows plan)
+    → map row_pair rows ≡ joined (plain v.plan).marks (buffered_pairs v owner olds) → mode_after v plan tree ≡ TreeMode 0
+    → e.deed ≡ Join tree (length (buffered_pairs v owner olds)) (length rows)
+    → e.pass + 1 ≡ v.mark → change +ℤ pos (length olds) ≡ pos (length rows) → (length olds < length rows → v.licensed ≡ true)
     → IsCommit v.plan v e plan change

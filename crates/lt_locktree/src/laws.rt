@@ -1,7 +1,8 @@
 //! Laws of what is asked of a tree. Each function's contract is a law over the definitions; the bodies are empty.
 ghost use Rattle.lt_locktree.specs.LawsOfCalls.{MakesOneCall, MakesNext};
 ghost use Rattle.lt_locktree.specs.LawsOfDeeds.{WhoCommits, HeldAskCommits};
-ghost use Rattle.lt_locktree.specs.Endings.{HeldAskEndsBuffer, LaidBufferCommits, WhoEndsBuffer};
+ghost use Rattle.lt_locktree.specs.Endings.{FreeEndsBuffer, GrantedAskEndsBuffer, HeldAskEndsBuffer};
+ghost use Rattle.lt_locktree.specs.Endings.{JoinEndsBuffer, LaidBufferCommits, WhoEndsBuffer};
 ghost use Rattle.lt_locktree.specs.LawsOfFrees.{FreeCommits, NoneFreedCommits};
 ghost use Rattle.lt_locktree.specs.LawsOfFreePlans.{FreePlanCommits};
 ghost use Rattle.lt_locktree.specs.LawsOfGrants.{MergedAskCommits, PutInAskCommits};
@@ -56,4 +57,7 @@ pub fn buffers_are_laid_out()
     ensures laid { LaidBufferCommits }
     ensures who { WhoEndsBuffer }
     ensures held { HeldAskEndsBuffer }
+    ensures granted { GrantedAskEndsBuffer }
+    ensures freed { FreeEndsBuffer }
+    ensures joined { JoinEndsBuffer }
 {}
