@@ -1,6 +1,7 @@
 -- A plan that lays out the pairs after an event that ends a buffer meets what a commit asks.
-use Rattle.std.proofs.Common.{◌≡◌, ℕ, zero, suc, ◌+◌, ◌<◌, ◌⊎◌, inl, inr, List, [], ◌∷◌, ◌++◌, map, length, refl, sym, ap, ◌∙◌, subst, arith, Bool, ne_eqb}
-use Rattle.std.specs.Prelude.{ℤ, pos, ◌+ℤ◌, if◌then◌else◌}
+use Rattle.std.proofs.Common.{◌≡◌, ℕ, zero, suc, ◌+◌, ◌<◌, ◌⊎◌, inl, inr, List, [], ◌∷◌, map, length, refl, sym, ap, ◌∙◌, subst, arith, ne_eqb}
+use Rattle.std.proofs.Common.{Bool}
+use Rattle.std.specs.Prelude.{pos, if◌then◌else◌}
 use Rattle.lt_seq.specs.declared.event.Deed.{Deed}
 use Rattle.lt_seq.specs.declared.event.Deed.TheVariants.{Ask, Free, Who, Join}
 use Rattle.lt_seq.specs.declared.event.Mode.TheVariants.{Tree as TreeMode, Buffer}
@@ -15,13 +16,12 @@ use Rattle.lt_forest.specs.Trees.{Nodes, in_order}
 use Rattle.lt_forest.specs.Cuts.{bare}
 use Rattle.lt_forest.specs.Forest.{IsTree}
 use Rattle.lt_forest.specs.Parts.{numbers, row_pair}
-use Rattle.lt_forest.specs.Views.{IsIn, AllHeld, PoolPlan, no_pool, from_pool}
+use Rattle.lt_forest.specs.Views.{AllHeld, PoolPlan, no_pool, from_pool}
 use Rattle.lt_forest.proofs.PublicPartLaws.{rows_show_pairs}
 use Rattle.lt_forest.proofs.RowsAndHangs.{numbers_of}
-use Rattle.lt_rows.specs.declared.view.View.{View}
-use Rattle.lt_rows.specs.Views.{has}
 use Rattle.lt_rows.specs.Lawful.{shown_after, ends_buffer, IsCommit}
-use Rattle.lt_locktree.specs.Endings.{HoldsBuffer, LaysTree, TakeOver, buffered_pairs, LaidBufferCommits, WhoEndsBuffer, HeldAskEndsBuffer, GrantedAskEndsBuffer, FreeEndsBuffer, JoinEndsBuffer}
+use Rattle.lt_locktree.specs.Endings.{buffered_pairs, LaidBufferCommits, WhoEndsBuffer, HeldAskEndsBuffer}
+use Rattle.lt_locktree.specs.Endings.{GrantedAskEndsBuffer, FreeEndsBuffer, JoinEndsBuffer}
 use Rattle.lt_locktree.proofs.GrantedRuns.{length-numbers}
 
 -- the rows that are taken from the pool are held
@@ -46,7 +46,8 @@ either_held tree olds taken held more q some =
     by_where tree olds taken held more q (some_of (times q olds) (times q taken) some)
 
 pub laid_buffer_commits : LaidBufferCommits
-laid_buffer_commits v owner count olds taken given rows plan e change buffer lt question lays over pool only pairs is_tree mode replies pass change_is licence =
+laid_buffer_commits v owner count olds taken given rows plan e change buffer lt question lays over pool only pairs is_tree mode replies pass change_is
+    licence =
     let d : Nodes = shown_after v plan in
     let nums : in_order (bare lays.new) ≡ numbers rows = sym (numbers_of d (in_order (bare lays.new))) ∙ ap numbers lays.rows_are in
     let long : length (in_order (bare lays.new)) ≡ length rows = ap length nums ∙ length-numbers rows in
@@ -75,7 +76,8 @@ laid_buffer_commits v owner count olds taken given rows plan e change buffer lt 
             replies = replies;
           };
           chain_held = buffer.held;
-          new_held = λ q some. either_held (tree_of e.deed) olds taken buffer.held (taken_held pool) q (let n = ap (times q) nums in let o = over.each q in omega arith);
+          new_held = λ q some. either_held (tree_of e.deed) olds taken buffer.held (taken_held pool) q
+              (let n = ap (times q) nums in let o = over.each q in omega arith);
           pool = pool;
           only = only;
         };
@@ -85,7 +87,8 @@ laid_buffer_commits v owner count olds taken given rows plan e change buffer lt 
     }
 
 pub who_ends_buffer : WhoEndsBuffer
-who_ends_buffer v tree owner count asked named olds given rows plan e change buffer lt interval other lays over pool only pairs now is pass change_is =
+who_ends_buffer v tree owner count asked named olds given rows plan e change buffer lt interval other lays over pool only pairs now is pass
+    change_is =
     let deed : Deed = Who tree asked named (others named asked (map row_pair rows)) in
     subst (λ (d : Deed). IsCommit v.plan v (record { pass = e.pass; txn = e.txn; deed = d }) plan change) (sym is)
     (laid_buffer_commits v owner count olds [] given rows plan (record { pass = e.pass; txn = e.txn; deed = deed }) change
@@ -97,8 +100,8 @@ who_ends_buffer v tree owner count asked named olds given rows plan e change buf
     (λ more. absurd (let a = over.all in omega arith)))
 
 pub held_ask_ends_buffer : HeldAskEndsBuffer
-held_ask_ends_buffer v tree owner count asked holder holders olds given rows plan e change buffer lt interval full lays over pool only pairs now held is pass
-    change_is =
+held_ask_ends_buffer v tree owner count asked holder holders olds given rows plan e change buffer lt interval full lays over pool only pairs now held
+    is pass change_is =
     let deed : Deed = Ask tree asked (HeldBy (holder ∷ holders)) in
     let ps : List Pair = buffered_pairs v owner olds in
     let by : others e.txn asked ps ≡ holder ∷ holders = ap (λ (xs : List Pair). others e.txn asked xs) (sym pairs) ∙ held in
@@ -119,8 +122,8 @@ held_ask_ends_buffer v tree owner count asked holder holders olds given rows pla
     (λ more. absurd (let a = over.all in omega arith)))
 
 pub granted_ask_ends_buffer : GrantedAskEndsBuffer
-granted_ask_ends_buffer v tree owner count asked olds taken given rows plan e change buffer lt interval full lays over pool only pairs now alone is pass
-    change_is licence =
+granted_ask_ends_buffer v tree owner count asked olds taken given rows plan e change buffer lt interval full lays over pool only pairs now alone
+    is pass change_is licence =
     let deed : Deed = Ask tree asked Granted in
     let ps : List Pair = buffered_pairs v owner olds in
     let state : TreeState = record { pairs = ps; mode = Buffer owner count } in
