@@ -20,7 +20,8 @@ use Rattle.lt_forest.specs.Views.{AllHeld, PoolPlan, no_pool, from_pool}
 use Rattle.lt_forest.proofs.PublicPartLaws.{rows_show_pairs}
 use Rattle.lt_forest.proofs.RowsAndHangs.{numbers_of}
 use Rattle.lt_rows.specs.Lawful.{shown_after, ends_buffer, IsCommit}
-use Rattle.lt_locktree.specs.Endings.{buffered_pairs, LaidBufferCommits, WhoEndsBuffer, HeldAskEndsBuffer}
+use Rattle.lt_rows.proofs.Planned.{row_held}
+use Rattle.lt_locktree.specs.Endings.{ChainHoldsBuffer, buffered_pairs, LaidBufferCommits, WhoEndsBuffer, HeldAskEndsBuffer}
 use Rattle.lt_locktree.specs.Endings.{GrantedAskEndsBuffer, FreeEndsBuffer, JoinEndsBuffer}
 use Rattle.lt_locktree.proofs.GrantedRuns.{length-numbers}
 
@@ -174,3 +175,10 @@ join_ends_buffer v tree owner count olds taken given rows plan e change buffer l
     now
     (ap (λ (n : ℕ). Join tree (length ps) n) (sym long))
     pass change_is licence)
+
+pub chain_holds_buffer : ChainHoldsBuffer
+chain_holds_buffer v tree rows h = record {
+  mode = h.shows.buffer.2;
+  chain = h.shows.chain;
+  held = λ q some. let r = h.backs.keeps.held q some in row_held v q r.0 r.1;
+}

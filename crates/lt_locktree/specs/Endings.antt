@@ -21,6 +21,7 @@ use Rattle.lt_rows.specs.declared.image.RowImage.{RowImage}
 use Rattle.lt_rows.specs.declared.view.View.{View}
 use Rattle.lt_rows.specs.Nodes.{mode_of}
 use Rattle.lt_rows.specs.Views.{has, images, planned_rows}
+use Rattle.lt_chain.specs.Chains.{HoldsChain}
 use Rattle.lt_rows.specs.Lawful.{shown, shown_after, mode_after, IsCommit}
 
 -- the tree's anchor, which shows the buffer of this owner, and all rows of its chain are held
@@ -28,6 +29,12 @@ pub record HoldsBuffer (v : View) (tree owner count : ℕ) (olds : List ℕ) : T
   pub mode : mode_of (images v tree) ≡ Buffer owner count
   pub chain : IsChain (shown v []) (shown v [] tree).left olds
   pub held : AllHeld (IsIn (has v)) (tree ∷ olds)
+
+-- the chain that a pass took holds its buffer
+abbrev pub ChainHoldsBuffer : Type 0
+ChainHoldsBuffer =
+    (v : View) (tree : ℕ) (rows : List ℕ) (h : HoldsChain v tree rows)
+    → HoldsBuffer v tree h.shows.buffer.0 h.shows.buffer.1 rows
 
 -- The buffer's pairs, in key order.
 abbrev pub buffered_pairs : View → ℕ → List ℕ → List Pair

@@ -1,7 +1,7 @@
 //! Laws of what is asked of a tree. Each function's contract is a law over the definitions; the bodies are empty.
 ghost use Rattle.lt_locktree.specs.LawsOfCalls.{MakesOneCall, MakesNext};
 ghost use Rattle.lt_locktree.specs.LawsOfDeeds.{WhoCommits, HeldAskCommits};
-ghost use Rattle.lt_locktree.specs.Endings.{FreeEndsBuffer, GrantedAskEndsBuffer, HeldAskEndsBuffer};
+ghost use Rattle.lt_locktree.specs.Endings.{ChainHoldsBuffer, FreeEndsBuffer, GrantedAskEndsBuffer, HeldAskEndsBuffer};
 ghost use Rattle.lt_locktree.specs.Endings.{JoinEndsBuffer, LaidBufferCommits, WhoEndsBuffer};
 ghost use Rattle.lt_locktree.specs.LawsOfFrees.{FreeCommits, NoneFreedCommits};
 ghost use Rattle.lt_locktree.specs.LawsOfFreePlans.{FreePlanCommits};
@@ -54,6 +54,7 @@ pub fn deeds_are_calls()
 
 /// An event that ends a buffer is a commit of a plan that lays the pairs after it out as a tree.
 pub fn buffers_are_laid_out()
+    ensures chain { ChainHoldsBuffer }
     ensures laid { LaidBufferCommits }
     ensures who { WhoEndsBuffer }
     ensures held { HeldAskEndsBuffer }
