@@ -25,3 +25,4 @@ pub mod JoinedParts
 pub mod NoneServed
 pub mod CallLaws
 pub mod EndingLaws
+pub mod SplitLaws

@@ -14,3 +14,4 @@ pub mod LawsOfJoins
 pub mod Calls
 pub mod LawsOfCalls
 pub mod Endings
+pub mod Splits

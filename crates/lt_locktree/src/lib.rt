@@ -14,6 +14,7 @@ mod locktree;
 mod owners;
 mod planning;
 mod questions;
+mod splitting;
 mod tree_pass;
 
 pub use answers::{Asked, Named};
@@ -26,4 +27,5 @@ pub use locktree::Locktree;
 pub use owners::owners_of;
 pub use planning::plan_rows;
 pub use questions::{ask_who, refuse_ask};
+pub use splitting::overlapping;
 pub use tree_pass::TreePass;
