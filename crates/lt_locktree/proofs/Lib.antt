@@ -26,3 +26,4 @@ pub mod NoneServed
 pub mod CallLaws
 pub mod EndingLaws
 pub mod SplitLaws
+pub mod PutInServed

@@ -41,7 +41,7 @@ numbers_same [] a b ys e = ap (λ (n : ℕ). n ∷ numbers ys) e
 numbers_same (x ∷ xs) a b ys e = ap (λ (ns : List ℕ). x.row ∷ ns) (numbers_same xs a b ys e)
 
 -- and one more row
-numbers_more : (xs : List PartRow) (a : PartRow) (ys : List PartRow) (q : ℕ)
+pub numbers_more : (xs : List PartRow) (a : PartRow) (ys : List PartRow) (q : ℕ)
     → times q (numbers (xs ++ a ∷ ys)) ≡ times q (numbers (xs ++ ys)) + times q (a.row ∷ [])
 numbers_more [] a ys q = omega arith
 numbers_more (x ∷ xs) a ys q = let e = numbers_more xs a ys q in omega arith
@@ -193,7 +193,7 @@ module _ (v : View) (tree : ℕ) (asked : Interval) (here : ℕ) (rows : List Pa
               ∙ link_left pool.words (slice_index vacant.words 17) pool_loaded.long);
         }
 
-    put_only : PlansOnly (here ∷ v.plan.trees ∷ vacant.row ∷ numbers rows) (planned_rows plan)
+    pub put_only : PlansOnly (here ∷ v.plan.trees ∷ vacant.row ∷ numbers rows) (planned_rows plan)
     put_only q none =
         let a = plan_times v tree asked here rows hangs more l lt interval stays loaded (taken_from pool vacant ∷ []) plan new_rows new_hangs plans once_put q in
         let d = counts q in

@@ -21,7 +21,7 @@ pub use answers::{Asked, Named};
 pub use asking::Asking;
 pub use freeing::{free_in_tree, free_rows, plan_freed};
 pub use growing::{grow_row, plan_grown};
-pub use inserting::plan_put_in;
+pub use inserting::{plan_put_in, put_in_row};
 pub use leaving::{Leaving, LeftOut, leave_out, leave_widened};
 pub use locktree::Locktree;
 pub use owners::owners_of;
