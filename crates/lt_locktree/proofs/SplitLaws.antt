@@ -1,15 +1,16 @@
 -- The rows of a part that overlap a range stand side by side, as their pairs do.
-use Rattle.std.proofs.Common.{◌≡◌, ℕ, zero, suc, ◌≤◌, Bool, true, false, List, [], ◌∷◌, map, length, take, drop, sym, ap, ◌∙◌, subst, arith}
+use Rattle.std.proofs.Common.{if◌then◌else◌, ◌==◌, ◌&&◌, not, true≢false, ◌≡◌, ◌<◌, get_or, ℕ, zero, suc, ◌≤◌, Bool, true, false, List, [], ◌∷◌, map, length, take, drop, sym, ap, ◌∙◌, subst, arith}
 use Rattle.std.specs.Prelude.{Some, None}
-use Rattle.std.specs.List.{AllWithin}
+use Rattle.std.specs.List.{AllWithin, filter}
 use Rattle.std.specs.List.Sorted.{IsPartitionedBy, IsPartitionPoint}
 use Rattle.std.proofs.Math.ListN.{get_or-map}
 use Rattle.std.proofs.lemmas.List.{length-map}
 use Rattle.lt_ranges.specs.Key.{key_le}
 use Rattle.lt_ranges.specs.Interval.{Interval, IsInterval, before, overlap}
 use Rattle.lt_seq.specs.declared.event.Pair.{Pair}
-use Rattle.lt_seq.specs.Pairs.{IsLawful}
+use Rattle.lt_seq.specs.Pairs.{IsLawful, is_own, is_others, others}
 use Rattle.lt_seq.specs.Window.{IsWindow}
+use Rattle.lt_seq.proofs.SpanLaws.{none_left}
 use Rattle.lt_seq.proofs.WindowLaws.{partitioned_before, partitioned_begins, window_found}
 use Rattle.lt_forest.specs.declared.part.PartRow.{PartRow}
 use Rattle.lt_forest.specs.Bounds.{Bound, IsAbove, IsBelow}
@@ -97,3 +98,33 @@ split_found range rows start end o lawful h k first second =
     (window_found range (map row_pair rows) start end o lawful (omega arith) (omega arith)
     (point_of_pairs (λ p. before p.range range) rows start first)
     (point_of_pairs (λ p. key_le p.range.left range.right) rows end second))
+
+-- Where no other's range overlaps, each that overlaps is the transaction's.
+module _ (txn : ℕ) (range : Interval) where
+  none_behind : (p : Pair) (ps : List Pair) → filter (is_others txn range) (p ∷ ps) ≡ [] → filter (is_others txn range) ps ≡ []
+  none_behind p ps none = by (is_others txn range p) none
+    where
+      by : (b : Bool) → (if b then p ∷ filter (is_others txn range) ps else filter (is_others txn range) ps) ≡ []
+          → filter (is_others txn range) ps ≡ []
+      by true e = absurd (let n = ap length e in omega arith)
+      by false e = e
+
+  own_at : (ps : List Pair) (i : ℕ) (d : Pair) → filter (is_others txn range) ps ≡ [] → i < length ps
+      → overlap (get_or ps i d).range range ≡ true → is_own txn range (get_or ps i d) ≡ true
+  own_at [] i d none lt meets = absurd (omega (arith, lt))
+  own_at (p ∷ ps) zero d none lt meets = by (p.owner == txn) (overlap p.range range) none meets
+    where
+      by : (b o : Bool) → (if not b && o then p ∷ filter (is_others txn range) ps else filter (is_others txn range) ps) ≡ []
+          → o ≡ true → (b && o) ≡ true
+      by true o e m = m
+      by false true e m = absurd (let n = ap length e in omega arith)
+      by false false e m = absurd (true≢false (sym m))
+  own_at (p ∷ ps) (suc i) d none lt meets = own_at ps i d (none_behind p ps none) (omega (arith, lt)) meets
+
+  pub split_owns : (rows : List PartRow) (start end : ℕ) → IsSplit range rows start end → others txn range (map row_pair rows) ≡ []
+      → AllWithin (λ r. is_own txn range (row_pair r) ≡ true) rows start end
+  split_owns rows start end split none k d from till =
+      let n = length-map rows row_pair in
+      subst (λ (p : Pair). is_own txn range p ≡ true) (get_or-map row_pair rows k d)
+      (own_at (map row_pair rows) k (row_pair d) (none_left (filter (is_others txn range) (map row_pair rows)) none) (let w = split.within in omega arith)
+      (subst (λ (p : Pair). overlap p.range range ≡ true) (sym (get_or-map row_pair rows k d)) (split.met k d from till)))
