@@ -133,8 +133,8 @@ module _ (pass : RowPass) (k : YardPlan) (tree : ℕ) (asked : Interval) (here :
           let n = ap (times q) (numbers_are v tree asked here rows hangs more l closed lt_here) in
           dite (ℕ_discrete (times q (v.plan.trees ∷ vacant.row ∷ [])) 0)
           (λ z. dite (ℕ_discrete (times q (here ∷ numbers rows)) 0)
-          (λ y. absurd (let x = put_only v tree asked here rows hangs more l closed lt_here asked_is pool vacant pool_in vacant_in first_is pool_loaded
-          vacant_loaded stays loaded plan new_rows new_hangs plans_here counts q (omega arith) in omega arith))
+          (λ y. absurd (let x = put_only v tree asked here rows hangs more l closed lt_here asked_is pool vacant pool_in vacant_in first_is
+          pool_loaded vacant_loaded stays loaded plan new_rows new_hangs plans_here counts q (omega arith) in omega arith))
           (λ ny. l.held_rows q (omega arith)))
           (λ ne. in_more q (omega arith))
 

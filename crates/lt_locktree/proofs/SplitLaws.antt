@@ -58,7 +58,8 @@ last_above range [] zero x above h le = above
 last_above range [] (suc n) x above h le = above
 last_above range (r ∷ rows) zero x above h le = above
 last_above range (r ∷ rows) (suc n) x above h le =
-    last_above range rows n (Some r.range.right) (h 0 r (omega arith) (omega arith)) (λ k d from till. h (suc k) d (omega arith) (omega (arith, till)))
+    last_above range rows n (Some r.range.right) (h 0 r (omega arith) (omega arith))
+    (λ k d from till. h (suc k) d (omega arith) (omega (arith, till)))
     (omega (arith, le))
 
 first_below : (range : Interval) (rows : List PartRow) (end : ℕ)
@@ -126,5 +127,6 @@ module _ (txn : ℕ) (range : Interval) where
   split_owns rows start end split none k d from till =
       let n = length-map rows row_pair in
       subst (λ (p : Pair). is_own txn range p ≡ true) (get_or-map row_pair rows k d)
-      (own_at (map row_pair rows) k (row_pair d) (none_left (filter (is_others txn range) (map row_pair rows)) none) (let w = split.within in omega arith)
+      (own_at (map row_pair rows) k (row_pair d)
+      (none_left (filter (is_others txn range) (map row_pair rows)) none) (let w = split.within in omega arith)
       (subst (λ (p : Pair). overlap p.range range ≡ true) (sym (get_or-map row_pair rows k d)) (split.met k d from till)))

@@ -103,9 +103,11 @@ served c =
     let here_held : IsHeld (knows old.pass) old.held = held_row (knows old.pass) old.held (c.requires.locked.held_rows old.held (omega arith)) in
     let unbuffered : NoBufferBegins v s.tree s.held a.txn s.part.rows.items =
     subst (λ (x : (ℕ × ℕ) × Part). NoBufferBegins v x.0.0 x.0.1 a.txn x.1.rows.items) (λ j. ((sym kept.1 j, sym kept.3 j), sym kept.4 j))
-    (buffer_kept (knows old.pass) v old.tree old.held a.txn old.part.rows.items here_held c.vacant.ensures.rows c.vacant.ensures.same.1 c.requires.unbuffered) in
+    (buffer_kept (knows old.pass) v old.tree old.held a.txn old.part.rows.items here_held
+    c.vacant.ensures.rows c.vacant.ensures.same.1 c.requires.unbuffered) in
     put_in_all s.pass s.table.now.plan s.tree s.asked s.held s.part.rows.items s.part.hangs.items row locked closed s.of.0.1 s.of.2 a of interval
-    s.pass.numbered.0 first.1 (ap (λ (u : View). u.licensed) c.vacant.ensures.same.1.0 ∙ c.requires.licensed) stays pool vacant loaded pool_loaded row_loaded
+    s.pass.numbered.0 first.1 (ap (λ (u : View). u.licensed) c.vacant.ensures.same.1.0 ∙ c.requires.licensed)
+    stays pool vacant loaded pool_loaded row_loaded
     c.args.at (subst (λ (p : Part). c.args.at ≤ length p.rows.items) (sym kept.4) c.requires.at)
     (subst (λ (p : Part). StandsBetween a.range (take c.args.at p.rows.items) (drop c.args.at p.rows.items)) (sym kept.4) c.requires.between)
     unbuffered c.in-Ok-plan_put_in.plan.items
@@ -124,5 +126,6 @@ finish-pass-requires-clause-held c =
 pub finish-pass-requires-clause-lawful : goal.finish-pass-requires-clause-lawful
 finish-pass-requires-clause-lawful c =
     subst (λ (x : View × List RowImage). IsCommit x.0.plan x.0
-    record { pass = c.args.asking.now.pass; txn = c.args.asking.now.txn; deed = Ask c.args.asking.now.tree c.args.asking.now.range Granted } x.1 (pos 1))
+    record { pass = c.args.asking.now.pass; txn = c.args.asking.now.txn; deed = Ask c.args.asking.now.tree c.args.asking.now.range Granted }
+    x.1 (pos 1))
     (λ j. (sym (same_view c) j, sym c.deref.ensures.value j)) (served c).1

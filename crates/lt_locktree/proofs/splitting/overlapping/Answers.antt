@@ -7,10 +7,13 @@ use Rattle.lt_locktree.proofs.splitting.overlapping.Goals as goal
 
 pub returns-clause-split : goal.returns-clause-split
 returns-clause-split c =
-    split_found c.args.range.now c.args.rows.now _ _ c.left-left.ensures.ordered c.requires c.partition_point-start.ensures.bound c.partition_point-end.ensures.bound
-    (IsPartitionPoint-from_clause (λ r. before r.range c.args.range.now) c.args.rows.now c.partition_point-start.result c.partition_point-start.ensures.partitioned
+    split_found c.args.range.now c.args.rows.now _ _ c.left-left.ensures.ordered c.requires
+    c.partition_point-start.ensures.bound c.partition_point-end.ensures.bound
+    (IsPartitionPoint-from_clause (λ r. before r.range c.args.range.now) c.args.rows.now c.partition_point-start.result
+    c.partition_point-start.ensures.partitioned
     (rows_before c.args.range.now c.args.rows.now c.requires) (λ a r f' k. search rules))
-    (IsPartitionPoint-from_clause (λ r. key_le r.range.left c.args.range.now.right) c.args.rows.now c.partition_point-end.result c.partition_point-end.ensures.partitioned
+    (IsPartitionPoint-from_clause (λ r. key_le r.range.left c.args.range.now.right) c.args.rows.now
+    c.partition_point-end.result c.partition_point-end.ensures.partitioned
     (rows_begin c.args.range.now c.args.rows.now c.requires) (λ a r f' k. search rules))
 
 pub returns-clause-own : goal.returns-clause-own
