@@ -1,0 +1,5 @@
+pub mod Lists
+pub mod Draws
+pub mod Gives
+pub mod Stocks
+pub mod Splits
