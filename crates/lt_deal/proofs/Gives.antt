@@ -51,13 +51,13 @@ module _ {T : Type 0} (workers : ℕ) where
         first = λ k y h e. set_else s.homes q k (some (Some x)) (λ same. omega arith) ∙ r.first k y h e;
         back = views_set (λ _ u. (k : ℕ) (y : T) → Gave u.gave k y → get_elem? (set s.homes q (some (Some x))) k ≡ some (some (Some y))) s.views id w
             (λ j u ne e k y g. set_else s.homes q k (some (Some x))
-                (λ same. let theirs = (r.each j u e).mine k y g in let theirs' : 0 < times q u.drew = subst (λ (n : ℕ). 0 < times n u.drew) same theirs in
-                let two = total_two (drawn_by q) s.views j id u v ne e at in omega arith)
+            (λ same. let theirs = (r.each j u e).mine k y g in let theirs' : 0 < times q u.drew = subst (λ (n : ℕ). 0 < times n u.drew) same theirs in
+            let two = total_two (drawn_by q) s.views j id u v ne e at in omega arith)
             ∙ r.back j u e k y g)
             (λ k y g. ⊎_elim
-                (λ (was : Gave v.gave k y). set_else s.homes q k (some (Some x)) (λ same. once_only y (subst (λ (n : ℕ). Gave v.gave n y) same was)) ∙ r.back id v at k y was)
-                (λ (same : Same q x k y). subst (λ (z : ℕ × T). get_elem? (set s.homes q (some (Some x))) z.0 ≡ some (some (Some z.1))) same (set_here s.homes q (some (Some x)) wide))
-                (gave_more v.gave q k x y g));
+            (λ (was : Gave v.gave k y). set_else s.homes q k (some (Some x)) (λ same. once_only y (subst (λ (n : ℕ). Gave v.gave n y) same was)) ∙ r.back id v at k y was)
+            (λ (same : Same q x k y). subst (λ (z : ℕ × T). get_elem? (set s.homes q (some (Some x))) z.0 ≡ some (some (Some z.1))) same (set_here s.homes q (some (Some x)) wide))
+            (gave_more v.gave q k x y g));
         vacant = λ k h l. (let f = total_same (λ u. u.filling) s.views id v w at refl in let wide' = length-set s.homes q (some (Some x)) in
             let was = r.vacant k (omega arith) (omega arith) in (was.0, set_else s.homes q k (some (Some x)) (λ same. omega arith) ∙ was.1));
       }

@@ -3,3 +3,4 @@ pub mod Draws
 pub mod Gives
 pub mod Stocks
 pub mod Splits
+pub mod Opens

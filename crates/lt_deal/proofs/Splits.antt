@@ -28,9 +28,9 @@ module _ {T : Type 0} (workers : ℕ) where
         parts = (let m = sum (λ u. u.parts) in let was = r.parts in omega arith);
         each = λ j y e. ⊎_elim
             (λ (was : get_elem? (set s.views id left) j ≡ some y). views_set (λ _ u. Knows r.stock r.tickets u) s.views id left (λ i u _ e'. r.each i u e')
-                record { stocked = λ _. mine.stocked (omega arith); blank = λ z. absurd (omega arith); asked = omega arith; ended = mine.ended; mine = mine.mine } j y was)
+            record { stocked = λ _. mine.stocked (omega arith); blank = λ z. absurd (omega arith); asked = omega arith; ended = mine.ended; mine = mine.mine } j y was)
             (λ (same : right ≡ y). subst (Knows r.stock r.tickets) same
-                record { stocked = λ _. mine.stocked (omega arith); blank = λ z. absurd (omega arith); asked = omega arith; ended = λ n. absurd (omega arith); mine = λ k x g. absurd (nothing k x g) })
+            record { stocked = λ _. mine.stocked (omega arith); blank = λ z. absurd (omega arith); asked = omega arith; ended = λ n. absurd (omega arith); mine = λ k x g. absurd (nothing k x g) })
             (at_snoc (set s.views id left) right y j e);
         few = (let m = sum (λ u. u.nones) in let was = r.few in omega arith);
         once = λ k h. (let m = sum (drawn_by k) in let was = r.once k h in omega arith);
@@ -64,13 +64,13 @@ module _ {T : Type 0} (workers : ℕ) where
         parts = (let m = sum (λ u. u.parts) in let was = r.parts in omega arith);
         each = views_set (λ _ u. Knows r.stock r.tickets u) mid other spent
             (λ j u _ e. views_set (λ _ y. Knows r.stock r.tickets y) s.views id both (λ i y _ e'. r.each i y e')
-                record {
-                  stocked = λ _. mine.stocked part;
-                  blank = λ z. absurd (omega arith);
-                  asked = (let a = mine.asked in let b = theirs.asked in omega arith);
-                  ended = λ n. dite (dec_lt 0 v.nones) mine.ended (λ no_lt. theirs.ended (omega arith));
-                  mine = λ k x g. (let d = times_append k v.drew w.drew in ⊎_elim (λ (a : Gave v.gave k x). let m = mine.mine k x a in omega arith) (λ (b : Gave w.gave k x). let m = theirs.mine k x b in omega arith) (gave_either v.gave w.gave k x g));
-                } j u e)
+            record {
+              stocked = λ _. mine.stocked part;
+              blank = λ z. absurd (omega arith);
+              asked = (let a = mine.asked in let b = theirs.asked in omega arith);
+              ended = λ n. dite (dec_lt 0 v.nones) mine.ended (λ no_lt. theirs.ended (omega arith));
+              mine = λ k x g. (let d = times_append k v.drew w.drew in ⊎_elim (λ (a : Gave v.gave k x). let m = mine.mine k x a in omega arith) (λ (b : Gave w.gave k x). let m = theirs.mine k x b in omega arith) (gave_either v.gave w.gave k x g));
+            } j u e)
             record { stocked = λ n. absurd (omega arith); blank = λ _. refl; asked = omega arith; ended = λ n. absurd (omega arith); mine = λ k x g. absurd (nothing k x g) };
         few = (let m = sum (λ u. u.nones) in let was = r.few in omega arith);
         once = λ k h. draws k ∙ r.once k h;
@@ -78,7 +78,7 @@ module _ {T : Type 0} (workers : ℕ) where
         first = r.first;
         back = views_set (λ _ u. (k : ℕ) (x : T) → Gave u.gave k x → get_elem? s.homes k ≡ some (some (Some x))) mid other spent
             (λ j u _ e. views_set (λ _ y. (k : ℕ) (x : T) → Gave y.gave k x → get_elem? s.homes k ≡ some (some (Some x))) s.views id both (λ i y _ e'. r.back i y e')
-                (λ k x g. ⊎_elim (λ (a : Gave v.gave k x). r.back id v at k x a) (λ (b : Gave w.gave k x). r.back other w there' k x b) (gave_either v.gave w.gave k x g)) j u e)
+            (λ k x g. ⊎_elim (λ (a : Gave v.gave k x). r.back id v at k x a) (λ (b : Gave w.gave k x). r.back other w there' k x b) (gave_either v.gave w.gave k x g)) j u e)
             (λ k x g. absurd (nothing k x g));
         vacant = λ k h l. (let m = sum (λ u. u.filling) in r.vacant k (omega arith) l);
       }

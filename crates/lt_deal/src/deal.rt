@@ -1,16 +1,18 @@
 //! The items and their tickets, and the calls of seats.
-ghost use Rattle.std.specs.Prelude.{◌≡◌, ◌≤◌, ◌+◌, [], ◌∷◌, ◌++◌, length, IfOk, MatchOption, None};
+ghost use Rattle.std.specs.Prelude.{◌≡◌, ◌≤◌, ◌+◌, [], ◌∷◌, ◌++◌, length, IfOk, MatchOption, None, All};
 ghost use mathlib.Core.Option.{some};
 ghost use lib.ListN.{get_elem?};
 
+use crate::build::{fill, seats};
 use crate::rule::Rule;
 use crate::seat::DealSeat;
 use crate::steps;
 use crate::view::View;
 use atomic_table::Table;
-use std::alloc::Global;
+use std::alloc::{AllocError, Global};
 
 /// Items that threads draw one by one, each once. No call but `build` and `close` takes memory, and none waits.
+#[derive(Drop)]
 pub struct Deal<T> {
     pub(crate) table: Table<Option<T>, View<T>, u32, Rule, Global>,
     pub(crate) count: usize,
@@ -19,8 +21,34 @@ pub struct Deal<T> {
     ghost few: { (count ≤ 1024) × (workers ≤ 16) },
 }
 
-impl<T> Deal<T> {
+impl<T: Drop> Deal<T> {
     ghost use Rattle.lt_deal.specs.Handles.{knows, IsSeatOf, Rests, Holds};
+    ghost use Rattle.lt_deal.specs.Fresh.{IsNewSeat};
+
+    /// A deal of these items, each in the slot of its index, and a seat for each worker.
+    ///
+    /// # Errors
+    /// Want of memory alone; the items are gone then.
+    pub fn build(
+        alloc: Global,
+        items: Vec<T>,
+        workers: u32,
+    ) -> Result<(Deal<T>, Vec<DealSeat<T>>), AllocError>
+        requires few { (length items.items ≤ 1024) × (1 ≤ workers) × (workers ≤ 16) }
+        ensures sizes { IfOk result (λ r. (r.0.count ≡ length items.items) × (r.0.workers ≡ workers) × (length r.1.items ≡ workers)) }
+        ensures seats { IfOk result (λ r. All (IsNewSeat r.0.table.shared.table_id items.items) r.1.items) }
+    {
+        let count = items.len();
+        let (table, mut place) = Table::vacant(alloc, &[0], count, &workers)?;
+        fill(&table.shared, &mut place, items);
+        let seats = seats(alloc, &table.shared, place, workers)?;
+        let deal = Deal {
+            table,
+            count,
+            workers,
+        };
+        Ok((deal, seats))
+    }
 
     /// Draws the next item, with its index. None comes where all were drawn, and then the seat draws no more.
     pub fn draw(&self, seat: &mut DealSeat<T>) -> Option<(u32, T)>

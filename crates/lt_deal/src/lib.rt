@@ -12,3 +12,6 @@ mod view;
 pub use deal::Deal;
 pub use seat::DealSeat;
 pub use view::View;
+
+#[cfg(test)]
+mod tests;
