@@ -1,6 +1,22 @@
 //! Two seats on one thread draw three items in turns and give them back.
+ghost use Rattle.std.specs.Prelude.{◌≡◌, MatchOption};
+ghost use Rattle.lt_deal.specs.Handles.{knows, IsSeatOf, Rests};
+
 use crate::deal::Deal;
+use crate::seat::DealSeat;
 use std::test::Fail;
+
+/// Draws an item and gives it back.
+fn turn(deal: &Deal<u8>, seat: &mut DealSeat<u8>) -> Option<(u32, u8)>
+    requires of { IsSeatOf deal.now seat.old }
+    requires rests { Rests seat.old × ((knows seat.old).nones ≡ 0) }
+    ensures of { IsSeatOf deal.now seat.new × Rests seat.new }
+    ensures open { MatchOption result ((knows seat.new).nones ≡ 1) (λ _. (knows seat.new).nones ≡ 0) }
+{
+    let (index, item) = deal.draw(seat)?;
+    deal.give_back(seat, index, item);
+    Some((index, item))
+}
 
 #[test]
 fn two_seats_draw_three_items(rt: HostRuntime) -> Result<(), Fail> {
@@ -11,23 +27,17 @@ fn two_seats_draw_three_items(rt: HostRuntime) -> Result<(), Fail> {
     let (deal, mut seats) = Deal::build(rt.alloc(), items, 2)?;
     let mut second = seats.pop().unwrap();
     let mut first = seats.pop().unwrap();
-    for wanted in 0..2 {
-        match deal.draw(&mut first) {
-            Some((index, item)) => {
-                assert_eq!(rt; index, wanted);
-                deal.give_back(&mut first, index, item);
-            }
-            None => panic!(rt; "an item was left"),
-        }
-    }
-    match deal.draw(&mut second) {
-        Some((index, item)) => {
-            assert_eq!(rt; (index, item), (2, 30));
-            deal.give_back(&mut second, index, item);
-        }
-        None => panic!(rt; "an item was left"),
-    }
-    assert!(rt; deal.draw(&mut second).is_none());
-    assert!(rt; deal.draw(&mut first).is_none());
+    let Some(zeroth) = turn(&deal, &mut first) else {
+        panic!(rt; "an item was left")
+    };
+    let Some(next) = turn(&deal, &mut first) else {
+        panic!(rt; "an item was left")
+    };
+    let Some(last) = turn(&deal, &mut second) else {
+        panic!(rt; "an item was left")
+    };
+    assert!(rt; zeroth == (0, 10) && next == (1, 20) && last == (2, 30));
+    assert!(rt; turn(&deal, &mut second).is_none());
+    assert!(rt; turn(&deal, &mut first).is_none());
     Ok(())
 }
