@@ -1,14 +1,14 @@
 -- A draw keeps the rule.
-use Rattle.std.proofs.Common.{◌≡◌, ◌≢◌, ◌⊎◌, inl, inr, ⊎_elim, ℕ, zero, suc, ◌+◌, ◌%◌, ◌^◌, ◌<◌, ◌≤◌, List, [], ◌∷◌, ◌++◌, length, set, get_or, refl, sym, ap, ◌∙◌, subst, arith, suc-ne-zero, length-set}
-use mathlib.Core.Option.{none, some, some-injective}
+use Rattle.std.proofs.Common.{◌≡◌, ◌≢◌, ℕ, suc, ◌+◌, ◌%◌, ◌^◌, ◌<◌, ◌≤◌, List, [], ◌∷◌, ◌++◌, length, set, get_or, refl, sym, ap, ◌∙◌, subst, arith, length-set}
+use mathlib.Core.Option.{none, some}
 use mathlib.Core.Logic.{dite}
 use native.Mathlib.Decide.{ℕ_discrete, dec_lt}
 use lib.ListN.{get_elem?}
-use Rattle.std.specs.Prelude.{Option, Some, None, nat_eq}
-use Rattle.atomic_table.specs.Table.{State, Act, Valid, carried_after, step, keeps, takes, stepped, Allows}
-use Rattle.atomic_table.proofs.Lists.{set_here, set_else}
+use Rattle.std.specs.Prelude.{Option, Some, nat_eq}
+use Rattle.atomic_table.specs.Table.{State, step, keeps, takes, Allows}
+use Rattle.atomic_table.proofs.Lists.{set_else}
 use Rattle.lt_deal.specs.declared.view.View.{View}
-use Rattle.lt_deal.specs.Rule.{total, times, weight, below, drawn_by, Gave, Knows, Dealt}
+use Rattle.lt_deal.specs.Rule.{total, weight, below, drawn_by, Gave, Knows, Dealt}
 use Rattle.lt_deal.specs.Plays.{Seated, draws}
 use Rattle.lt_deal.proofs.Lists.{total_set, total_has, total_le, total_same, views_set, at_len, at_some, times_append, weight_same, weight_else, below_yes, below_not}
 

@@ -1,18 +1,17 @@
 -- An item that is given back keeps the rule.
-use Rattle.std.proofs.Common.{◌≡◌, ◌≢◌, ◌⊎◌, inl, inr, ⊎_elim, ℕ, zero, suc, ◌+◌, ◌<◌, ◌≤◌, List, [], ◌∷◌, ◌++◌, length, set, get_or, refl, sym, ap, ◌∙◌, subst, arith, length-set}
-use mathlib.Core.Option.{none, some, some-injective}
+use Rattle.std.proofs.Common.{◌≡◌, ◌⊎◌, inl, inr, ⊎_elim, ℕ, ◌+◌, ◌<◌, ◌≤◌, List, [], ◌∷◌, ◌++◌, length, set, refl, sym, ap, ◌∙◌, subst, arith, length-set}
+use mathlib.Core.Option.{none, some}
 use mathlib.Core.Logic.{dite}
-use native.Mathlib.Decide.{ℕ_discrete, dec_lt}
+use native.Mathlib.Decide.{dec_lt}
 use lib.ListN.{get_elem?}
 use lib.Seq.{set-get_or}
-use Rattle.std.specs.Prelude.{Option, Some, None, nat_eq}
-use Rattle.atomic_table.specs.Table.{State, Act, Valid, carried_after, homes_after, step, keeps, takes, gives, stepped, Allows}
+use Rattle.std.specs.Prelude.{Option, Some}
+use Rattle.atomic_table.specs.Table.{State, carried_after, homes_after, step, gives, Allows}
 use Rattle.atomic_table.proofs.Lists.{set_here, set_else, at_snoc}
 use Rattle.lt_deal.specs.declared.view.View.{View}
-use Rattle.lt_deal.specs.Rule.{total, times, weight, below, drawn_by, Gave, Knows, Dealt}
+use Rattle.lt_deal.specs.Rule.{times, below, drawn_by, Gave, Knows, Dealt}
 use Rattle.lt_deal.specs.Plays.{Seated, gives_back}
-use Rattle.lt_deal.proofs.Lists.{total_set, total_has, total_le, total_same, total_two, views_set, at_len, at_some, times_append, weight_same, weight_else, below_yes, below_not}
-use Rattle.lt_deal.proofs.Draws.{given_drawn}
+use Rattle.lt_deal.proofs.Lists.{total_has, total_same, total_two, views_set, below_yes, below_not}
 
 abbrev Same : {T : Type 0} → ℕ → T → ℕ → T → Type 0
 Same {T} q x k y = ◌≡◌ {A = ℕ × T} (q, x) (k, y)

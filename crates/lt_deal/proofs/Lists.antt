@@ -1,13 +1,11 @@
 -- On totals over views, and on lists.
-use Rattle.std.proofs.Common.{◌≡◌, ◌≢◌, ◌⊎◌, inl, inr, ⊎_elim, ℕ, zero, suc, ◌+◌, ◌<◌, ◌≤◌, List, [], ◌∷◌, ◌++◌, length, set, refl, sym, ap, ◌∙◌, subst, arith, length-append, eq-eqb}
+use Rattle.std.proofs.Common.{◌≡◌, ◌≢◌, ⊎_elim, ℕ, zero, suc, ◌+◌, ◌<◌, ◌≤◌, List, [], ◌∷◌, ◌++◌, length, set, refl, sym, ap, subst, arith, eq-eqb}
 use mathlib.Core.Option.{some, some-injective, some-ne-none}
-use mathlib.Core.Logic.{dite}
-use native.Mathlib.Decide.{ℕ_discrete}
 use lib.ListN.{get_elem?}
 use Rattle.std.specs.Prelude.{nat_eq, nat_lt, Bool, true, false}
 use Rattle.std.proofs.lemmas.Bool.{ltb-true, ltb-false}
 use borrow.Author.Tests.{eqb-true}
-use Rattle.atomic_table.proofs.Lists.{at_set, at_last, at_snoc}
+use Rattle.atomic_table.proofs.Lists.{at_set}
 use Rattle.lt_deal.specs.declared.view.View.{View}
 use Rattle.lt_deal.specs.Rule.{total, times, weight, below}
 

@@ -1,15 +1,15 @@
 -- A split and a join of seats keep the rule.
-use Rattle.std.proofs.Common.{◌≡◌, ◌≢◌, ◌⊎◌, inl, inr, ⊎_elim, ℕ, zero, suc, ◌+◌, ◌-◌, ◌<◌, ◌≤◌, List, [], ◌∷◌, ◌++◌, length, set, get_or, refl, sym, ap, ◌∙◌, subst, arith, length-set}
-use mathlib.Core.Option.{none, some, some-injective, some-ne-none}
+use Rattle.std.proofs.Common.{◌≡◌, ◌⊎◌, inl, inr, ⊎_elim, ℕ, zero, suc, ◌+◌, ◌<◌, List, [], ◌∷◌, ◌++◌, set, refl, sym, ◌∙◌, subst, arith}
+use mathlib.Core.Option.{some, some-ne-none}
 use mathlib.Core.Logic.{dite}
-use native.Mathlib.Decide.{ℕ_discrete, dec_lt}
+use native.Mathlib.Decide.{dec_lt}
 use lib.ListN.{get_elem?}
-use Rattle.std.specs.Prelude.{Option, Some, None}
-use Rattle.atomic_table.specs.Table.{State, Splits, Joins}
-use Rattle.atomic_table.proofs.Lists.{at_snoc, at_set, set_else}
+use Rattle.std.specs.Prelude.{Some}
+use Rattle.atomic_table.specs.Table.{Splits, Joins}
+use Rattle.atomic_table.proofs.Lists.{at_snoc, set_else}
 use Rattle.lt_deal.specs.declared.view.View.{View}
-use Rattle.lt_deal.specs.Rule.{total, times, drawn_by, Gave, Knows, Dealt, maker, further, gathered, spent}
-use Rattle.lt_deal.proofs.Lists.{total_set, total_snoc, total_has, total_same, views_set, times_append}
+use Rattle.lt_deal.specs.Rule.{total, drawn_by, Gave, Knows, Dealt, maker, further, gathered, spent}
+use Rattle.lt_deal.proofs.Lists.{total_set, total_snoc, views_set, times_append}
 
 module _ {T : Type 0} (workers : ℕ) where
   nothing : (k : ℕ) (y : T) → Gave [] k y → ⊥

@@ -1,18 +1,18 @@
 -- The steps of a seat that fills the slots keep the rule.
-use Rattle.std.proofs.Common.{◌≡◌, ◌≢◌, ◌⊎◌, inl, inr, ⊎_elim, ℕ, zero, suc, ◌+◌, ◌<◌, ◌≤◌, List, [], ◌∷◌, ◌++◌, length, set, get_or, refl, sym, ap, ◌∙◌, subst, arith, length-set, length-append}
+use Rattle.std.proofs.Common.{◌≡◌, ◌≢◌, ℕ, zero, suc, ◌+◌, ◌<◌, ◌≤◌, List, [], ◌∷◌, ◌++◌, length, set, refl, sym, ap, ◌∙◌, subst, arith, length-set, length-append}
 use mathlib.Core.Option.{none, some, some-injective, some-ne-none}
 use mathlib.Core.Logic.{dite}
-use native.Mathlib.Decide.{ℕ_discrete, dec_lt}
+use native.Mathlib.Decide.{ℕ_discrete}
 use lib.ListN.{get_elem?}
 use lib.Seq.{set-get_or}
-use Rattle.std.specs.Prelude.{Option, Some, None, nat_eq}
-use Rattle.atomic_table.specs.Table.{State, Act, Valid, carried_after, homes_after, step, keeps, takes, gives, stepped, Allows}
-use Rattle.atomic_table.proofs.Lists.{set_here, set_else, at_snoc, at_last}
+use Rattle.std.specs.Prelude.{Option, Some}
+use Rattle.atomic_table.specs.Table.{State, carried_after, homes_after, step, takes, gives, Allows}
+use Rattle.atomic_table.proofs.Lists.{set_here, set_else, at_last}
 use Rattle.lt_deal.specs.declared.view.View.{View}
-use Rattle.lt_deal.specs.Rule.{total, times, weight, below, drawn_by, Gave, Knows, Dealt}
+use Rattle.lt_deal.specs.Rule.{total, times, drawn_by, Gave, Knows, Dealt}
 use Rattle.lt_deal.specs.Plays.{Seated, opens, stocks}
 use Rattle.lt_deal.specs.Fresh.{IsFresh}
-use Rattle.lt_deal.proofs.Lists.{total_set, total_has, total_le, total_same, total_two, all_none, views_set, at_len, at_some, times_append, weight_same, weight_else, below_yes, below_not}
+use Rattle.lt_deal.proofs.Lists.{total_set, total_same, total_two, all_none, views_set, at_len, below_yes, below_not}
 use Rattle.lt_deal.proofs.Draws.{given_drawn}
 
 module _ {T : Type 0} (workers : ℕ) where

@@ -1,4 +1,4 @@
-use Rattle.std.proofs.Common.{rules, arith, ◌≡◌, ◌<◌, ℕ, List, length, ◌+◌, ◌++◌, ◌∷◌, [], Some, None, ap, sym, ◌∙◌, subst}
+use Rattle.std.proofs.Common.{rules, arith, ◌<◌, ℕ, length, ◌++◌, ◌∷◌, [], Some, None, ap, sym, ◌∙◌, subst}
 use Rattle.atomic_table.specs.Table.{rest}
 use Rattle.lt_deal.specs.declared.view.View.{View}
 use Rattle.lt_deal.specs.Rule.{Gave, times}
