@@ -2,6 +2,7 @@
 #![tactic(auto)]
 
 mod build;
+mod crossing;
 mod deal;
 mod plays;
 mod rule;
