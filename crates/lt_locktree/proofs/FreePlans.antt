@@ -4,6 +4,7 @@ use Rattle.std.specs.Prelude.{slice_index, reverse}
 use Rattle.std.proofs.lemmas.List.{reverse-append, length-reverse}
 use Rattle.std.specs.List.{filter}
 use Rattle.lt_ranges.specs.Interval.{Interval, IsInterval}
+use Rattle.lt_seq.specs.Table.{raised}
 use Rattle.lt_forest.specs.declared.part.PartRow.{PartRow}
 use Rattle.lt_forest.specs.Counts.{times}
 use Rattle.lt_forest.specs.Trees.{Node}
@@ -17,22 +18,21 @@ use Rattle.lt_rows.specs.declared.view.View.{View}
 use Rattle.lt_rows.specs.declared.image.RowImage.{RowImage}
 use Rattle.lt_rows.specs.Nodes.{node_of}
 use Rattle.lt_rows.specs.Views.{has, planned_rows}
-use Rattle.lt_rows.specs.Lawful.{shown, shown_after}
+use Rattle.lt_rows.specs.Lawful.{shown, shown_after, mode_before, mode_after}
 use Rattle.lt_rows.proofs.ThreeRows.{is_left, link_left}
-use Rattle.lt_tree.specs.Gathers.{Place, below_top, on_left, on_right, IsLockedWith, IsClosed}
+use Rattle.lt_tree.specs.Gathers.{Place, below_top, on_left, on_right, TopIs, IsLockedWith, IsClosed}
 use Rattle.lt_locktree.specs.Given.{IsChained, given_to}
-use Rattle.lt_locktree.specs.LawsOfFrees.{goes, freed_rows, AreNumbersOf}
-use Rattle.lt_locktree.specs.LawsOfFreePlans.{FreePlanCommits}
-use Rattle.lt_locktree.specs.PlannedParts.{InPlan, PlansRows, IsLoaded}
-use Rattle.lt_locktree.specs.Relaid.{StaysBeside, LaysPart}
-use Rattle.lt_locktree.specs.RelaidRows.{RowStays}
+use Rattle.lt_locktree.specs.LawsOfFrees.{goes, freed_rows, RaisesAnchor, AreNumbersOf}
+use Rattle.lt_locktree.specs.LawsOfFreePlans.{RaisesImage, FreePlanCommits}
+use Rattle.lt_locktree.specs.PlannedParts.{InPlan, PlansRows, IsLoaded, ShowsRow}
+use Rattle.lt_locktree.specs.RelaidRows.{LaysRows}
 use Rattle.lt_locktree.proofs.GrantedRuns.{numbers_are, sub_held, length-numbers}
 use Rattle.lt_locktree.proofs.PlannedRows.{in_left, in_right}
 use Rattle.lt_locktree.proofs.DrawnParts.{planned_app}
-use Rattle.lt_locktree.proofs.LaidParts.{loaded_at, plan_times, planned_image, other_planned, laid_part}
+use Rattle.lt_locktree.proofs.LaidParts.{loaded_at, plan_times, planned_image, other_planned, laid_rows, anchor_gets}
 use Rattle.lt_locktree.proofs.PlanLaws.{all_once}
 use Rattle.lt_locktree.proofs.MergedPlans.{one_of, chained_times, chained_run}
-use Rattle.lt_locktree.proofs.FreedParts.{anchor_keeps, keeps_score, free_commits}
+use Rattle.lt_locktree.proofs.FreedParts.{free_commits}
 
 -- each row stays or goes
 pub parted : (txn : ℕ) (range : Interval) (rows : List PartRow) (q : ℕ)
@@ -59,18 +59,12 @@ times_reversed (r ∷ rows) q =
 are_reversed : (rows : List PartRow) → AreNumbersOf rows (numbers (reverse rows))
 are_reversed rows = record { each = times_reversed rows; all = length-numbers (reverse rows) ∙ length-reverse rows }
 
--- a part that is laid with the anchor's mode
-any_mode : (v : View) (plan : List RowImage) (here : ℕ) (p : Place) → StaysBeside v plan here p → RowStays v plan here p
-any_mode v plan here below_top b = tt
-any_mode v plan here on_left b = b
-any_mode v plan here on_right b = b
-
 module _ (v : View) (tree : ℕ) (asked : Interval) (here : ℕ) (rows : List PartRow) (hangs more : List ℕ)
     (l : IsLockedWith v tree asked here rows hangs more) (closed : IsClosed asked rows hangs) (lt : tree < v.plan.trees)
     (interval : IsInterval asked) (pool : RowImage) (pool_in : 0 < times v.plan.trees more) (pool_loaded : IsLoaded v v.plan.trees pool)
     (txn : ℕ) (rows' : List PartRow) (hangs' : List ℕ) (left_out : LeavesOut (λ r. not (goes txn asked r)) rows hangs rows' hangs')
     (chained : List RowImage) (link : ℕ) (chains : IsChained chained link (reverse (freed_rows txn asked rows)) (slice_index pool.words 17))
-    (stays : RowImage) (loaded : IsLoaded v here stays) (plan : List RowImage)
+    (stays : RowImage) (loaded : ShowsRow v here stays) (plan : List RowImage)
     (plans : PlansRows tree asked stays (chained ++ given_to pool link ∷ []) plan rows' hangs') where
   abbrev gone : List PartRow
   gone = freed_rows txn asked rows
@@ -104,8 +98,19 @@ module _ (v : View) (tree : ℕ) (asked : Interval) (here : ℕ) (rows : List Pa
       let m = more_than q in
       omega arith
 
-  pub free_laid : LaysPart v plan l.place here rows' hangs'
-  free_laid = laid_part v tree asked here rows hangs more l lt interval stays loaded others plan rows' hangs' plans once
+  pub free_laid : LaysRows v plan l.place here rows' hangs'
+  free_laid = laid_rows v tree asked here rows hangs more l lt interval stays loaded others plan rows' hangs' plans once
+
+  pub free_raises : (first : Bool) → RaisesImage v tree stays first l.place → RaisesAnchor v plan tree first l.place
+  free_raises first raises = by l.place refl raises
+    where
+      by : (p : Place) → l.place ≡ p → RaisesImage v tree stays first p → RaisesAnchor v plan tree first p
+      by below_top at b =
+          subst (λ (n : ℕ). mode_after v plan n ≡ raised first (mode_before v plan tree))
+          (subst (λ (p : Place). TopIs p tree here l.top) at l.top_is).0
+          (anchor_gets v tree asked here rows hangs more l lt interval stays loaded others plan rows' hangs' plans once at ∙ b)
+      by on_left at b = tt
+      by on_right at b = tt
 
   -- what the rows that go and the pool's anchor hold behind the plan
   holds_others : (p : RowImage) → InPlan p others → shown_after v plan p.row ≡ node_of p.words
@@ -143,14 +148,14 @@ module _ (v : View) (tree : ℕ) (asked : Interval) (here : ℕ) (rows : List Pa
   free_only q none = let t = free_times q in omega arith
 
 pub free_plan_commits : FreePlanCommits
-free_plan_commits v tree asked here rows rows' hangs hangs' more stays pool chained plan link first e change l closed lt interval keeps left_out pool_in loaded
+free_plan_commits v tree asked here rows rows' hangs hangs' more stays pool chained plan link first e change l closed lt interval keeps raises left_out pool_in loaded
     pool_loaded chains plans pass is counts =
     let laid = free_laid v tree asked here rows hangs more l closed lt interval pool pool_in pool_loaded e.txn rows' hangs' left_out chained link chains
     stays loaded plan plans in
     free_commits v tree asked here rows rows' hangs hangs' more (numbers (reverse (freed_rows e.txn asked rows))) first plan e change l closed lt interval
-    (keeps_score l.place first l.score keeps) left_out
-    (record { new = laid.new; shows = laid.shows; rows_are = laid.rows_are; hangs_are = laid.hangs_are; beside = any_mode v plan here l.place laid.beside })
-    (anchor_keeps v tree asked here rows hangs more l first plan keeps laid.beside)
+    keeps left_out laid
+    (free_raises v tree asked here rows hangs more l closed lt interval pool pool_in pool_loaded e.txn rows' hangs' left_out chained link chains
+    stays loaded plan plans first raises)
     (are_reversed (freed_rows e.txn asked rows))
     (free_pool v tree asked here rows hangs more l closed lt interval pool pool_in pool_loaded e.txn rows' hangs' left_out chained link chains
     stays loaded plan plans)

@@ -30,7 +30,7 @@ use Rattle.lt_locktree.specs.Makes.{IsOf}
 use Rattle.lt_locktree.specs.PlannedParts.{IsAt, PlansRows, IsLoaded}
 use Rattle.lt_locktree.proofs.HeldParts.{row_further}
 use Rattle.lt_locktree.proofs.GrantedRuns.{numbers_are}
-use Rattle.lt_locktree.proofs.LaidParts.{plan_times}
+use Rattle.lt_locktree.proofs.LaidParts.{plan_times, seen_loaded}
 use Rattle.lt_locktree.proofs.PlanLaws.{all_once, numbers_same, grown_plan_commits}
 
 hangs_long : (cut : Cut) → length (hangs_of cut) ≡ length (in_order (bare cut)) + 1
@@ -124,7 +124,8 @@ module _ (pass : RowPass) (k : YardPlan) (tree : ℕ) (asked : Interval) (here :
 
         is_held : (q : ℕ) → 0 < times q (planned_rows plan) → IsIn (has (knows pass)) q
         is_held q some =
-            let t = plan_times (knows pass) tree asked here rows hangs more l lt_here asked_is stays loaded [] plan
+            let t = plan_times (knows pass) tree asked here rows hangs more l lt_here asked_is stays
+                (seen_loaded (knows pass) tree asked here rows hangs more l lt_here asked_is stays loaded) [] plan
             (take at rows ++ merged_row a.txn asked r [] ∷ drop (at + 1) rows) hangs plans_here once q in
             let s = ap (times q) same in
             let n = ap (times q) (numbers_are (knows pass) tree asked here rows hangs more l closed lt_here) in

@@ -15,11 +15,12 @@ use Rattle.lt_rows.specs.declared.view.View.{View}
 use Rattle.lt_rows.specs.declared.image.RowImage.{RowImage}
 use Rattle.lt_rows.specs.Nodes.{node_of, mode_of}
 use Rattle.lt_rows.specs.Views.{has, words_of, image_of, images, planned_contents, planned_rows}
-use Rattle.lt_rows.specs.Lawful.{shown, shown_after}
+use Rattle.lt_rows.specs.Lawful.{shown, shown_after, mode_after}
 use Rattle.lt_rows.proofs.Planned.{held_row}
 use Rattle.lt_tree.specs.Gathers.{Place, below_top, on_left, on_right, link_at, around, TopIs, Beside, IsLockedWith}
-use Rattle.lt_locktree.specs.PlannedParts.{InPlan, hangs_left, relinked, PlansRows, IsLoaded}
+use Rattle.lt_locktree.specs.PlannedParts.{InPlan, hangs_left, relinked, PlansRows, IsLoaded, ShowsRow}
 use Rattle.lt_locktree.specs.Relaid.{StaysBeside, LaysPart}
+use Rattle.lt_locktree.specs.RelaidRows.{RowStays, LaysRows}
 use Rattle.lt_locktree.proofs.HeldParts.{row_further}
 use Rattle.lt_locktree.proofs.PlannedRows.{planned_at_row, in_left, in_right}
 use Rattle.lt_locktree.proofs.DrawnParts.{drawn_shows, drawn_times, planned_app}
@@ -41,7 +42,11 @@ module _ (v : View) (tree : ℕ) (asked : Interval) (here : ℕ) (rows : List Pa
       let o : one_if (nat_eq here here) ≡ 1 = ap one_if (eq-eqb here here refl) in
       loaded_at here stays (l.held_rows here (omega arith)) loaded
 
-  module _ (stays : RowImage) (loaded : IsLoaded v here stays) (others plan : List RowImage) (new_rows : List PartRow) (new_hangs : List ℕ)
+  -- and so the row that stays is shown by its image
+  pub seen_loaded : (stays : RowImage) → IsLoaded v here stays → ShowsRow v here stays
+  seen_loaded stays loaded = record { row = loaded.row; node = ap node_of (loaded_image stays loaded); long = loaded.long }
+
+  module _ (stays : RowImage) (loaded : ShowsRow v here stays) (others plan : List RowImage) (new_rows : List PartRow) (new_hangs : List ℕ)
       (plans : PlansRows tree asked stays others plan new_rows new_hangs)
       (once : (q : ℕ) → times q (planned_rows others) + times q (numbers new_rows) + times q (here ∷ []) ≤ 1) where
     abbrev d : Nodes
@@ -90,7 +95,7 @@ module _ (v : View) (tree : ℕ) (asked : Interval) (here : ℕ) (rows : List Pa
         (in_right last_one (others ++ added) (last_one ∷ []) (inl refl)))
 
     was : shown v [] here ≡ node_of stays.words
-    was = ap node_of (loaded_image stays loaded)
+    was = loaded.node
 
     now_left : hangs_left tree asked stays ≡ true
         → d here ≡ record { owner = (node_of stays.words).owner; range = (node_of stays.words).range; left = plans.link; right = (node_of stays.words).right }
@@ -117,13 +122,8 @@ module _ (v : View) (tree : ℕ) (asked : Interval) (here : ℕ) (rows : List Pa
     new_shows = drawn_shows d added new_rows plans.link plans.draws.cut drawn_planned plans.draws.drawn
 
     link_is : (p : Place) → TopIs p tree here l.top → (p ≡ on_right → v.plan.trees < here) → Beside p asked (shown v [] here).range
-        → (link_at p (d here) ≡ plans.link) × StaysBeside v plan here p
-    link_is below_top is far b =
-        let left = left_as_anchor tree asked stays (loaded.row ∙ is.0) in (
-          ap (λ (n : Node). n.left) (now_left left),
-          ap mode_of (here_planned ∙ relinked_left tree asked stays plans.link left)
-              ∙ (mode_same stays.words plans.link ∙ ap mode_of (sym (loaded_image stays loaded))),
-        )
+        → (link_at p (d here) ≡ plans.link) × RowStays v plan here p
+    link_is below_top is far b = (ap (λ (n : Node). n.left) (now_left (left_as_anchor tree asked stays (loaded.row ∙ is.0))), tt)
     link_is on_left is far b =
         let left = on_left_side b in (
           ap (λ (n : Node). n.left) (now_left left),
@@ -147,8 +147,8 @@ module _ (v : View) (tree : ℕ) (asked : Interval) (here : ℕ) (rows : List Pa
         (subst (λ (p : Place). 0 < times here (in_order (bare (around p here (shown v [] here) l.sub)))) (sym e)
         (let o : one_if (nat_eq here here) ≡ 1 = ap one_if (eq-eqb here here refl) in omega arith))).0
 
-    pub laid_part : LaysPart v plan l.place here new_rows new_hangs
-    laid_part =
+    pub laid_rows : LaysRows v plan l.place here new_rows new_hangs
+    laid_rows =
         let at = link_is l.place l.top_is far_right l.beside in
         record {
           new = plans.draws.cut;
@@ -156,4 +156,32 @@ module _ (v : View) (tree : ℕ) (asked : Interval) (here : ℕ) (rows : List Pa
           rows_are = new_shows.1;
           hangs_are = plans.draws.hangs_are;
           beside = at.1;
+        }
+
+    -- an anchor that stays gets the mode of its image
+    pub anchor_gets : l.place ≡ below_top → mode_after v plan here ≡ mode_of stays.words
+    anchor_gets at =
+        let is = subst (λ (p : Place). TopIs p tree here l.top) at l.top_is in
+        ap mode_of (here_planned ∙ relinked_left tree asked stays plans.link (left_as_anchor tree asked stays (loaded.row ∙ is.0)))
+        ∙ mode_same stays.words plans.link
+
+  -- where the image is as loaded, the anchor keeps its mode
+  module _ (stays : RowImage) (loaded : IsLoaded v here stays) (others plan : List RowImage) (new_rows : List PartRow) (new_hangs : List ℕ)
+      (plans : PlansRows tree asked stays others plan new_rows new_hangs)
+      (once : (q : ℕ) → times q (planned_rows others) + times q (numbers new_rows) + times q (here ∷ []) ≤ 1) where
+    beside_by : (p : Place) → l.place ≡ p → RowStays v plan here p → StaysBeside v plan here p
+    beside_by below_top at b =
+        anchor_gets stays (seen_loaded stays loaded) others plan new_rows new_hangs plans once at ∙ ap mode_of (sym (loaded_image stays loaded))
+    beside_by on_left at b = b
+    beside_by on_right at b = b
+
+    pub laid_part : LaysPart v plan l.place here new_rows new_hangs
+    laid_part =
+        let laid = laid_rows stays (seen_loaded stays loaded) others plan new_rows new_hangs plans once in
+        record {
+          new = laid.new;
+          shows = laid.shows;
+          rows_are = laid.rows_are;
+          hangs_are = laid.hangs_are;
+          beside = beside_by l.place refl laid.beside;
         }

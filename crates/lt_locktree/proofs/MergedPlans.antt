@@ -27,7 +27,7 @@ use Rattle.lt_locktree.specs.Relaid.{LaysPart}
 use Rattle.lt_locktree.proofs.GrantedRuns.{numbers_are, sub_held, merged_ask_commits}
 use Rattle.lt_locktree.proofs.DrawnParts.{planned_app}
 use Rattle.lt_locktree.proofs.PlannedRows.{in_left, in_right}
-use Rattle.lt_locktree.proofs.LaidParts.{loaded_at, plan_times, planned_image, other_planned, laid_part}
+use Rattle.lt_locktree.proofs.LaidParts.{loaded_at, plan_times, planned_image, other_planned, laid_part, seen_loaded}
 use Rattle.lt_locktree.proofs.PlanLaws.{all_once}
 
 -- images that are chained have the rows, and where they count the links lead along these
@@ -95,8 +95,10 @@ module _ (v : View) (tree : ℕ) (asked : Interval) (here : ℕ) (rows : List Pa
   image_counts : (p : RowImage) → InPlan p (given_to pool link ∷ given) → shown_after v plan p.row ≡ node_of p.words
   image_counts p h =
       ap node_of
-      (planned_image v tree asked here rows hangs more l lt interval stays loaded (given_to pool link ∷ given) plan new_rows new_hangs plans once_merged p
-      (other_planned v tree asked here rows hangs more l lt interval stays loaded (given_to pool link ∷ given) plan new_rows new_hangs plans once_merged p h))
+      (planned_image v tree asked here rows hangs more l lt interval stays
+          (seen_loaded v tree asked here rows hangs more l lt interval stays loaded) (given_to pool link ∷ given) plan new_rows new_hangs plans once_merged p
+      (other_planned v tree asked here rows hangs more l lt interval stays
+          (seen_loaded v tree asked here rows hangs more l lt interval stays loaded) (given_to pool link ∷ given) plan new_rows new_hangs plans once_merged p h))
 
   pool_link : (shown_after v plan v.plan.trees).left ≡ link
   pool_link =
@@ -119,7 +121,8 @@ module _ (v : View) (tree : ℕ) (asked : Interval) (here : ℕ) (rows : List Pa
 
   merged_only : PlansOnly (here ∷ v.plan.trees ∷ numbers rows) (planned_rows plan)
   merged_only q none =
-      let a = plan_times v tree asked here rows hangs more l lt interval stays loaded (given_to pool link ∷ given) plan new_rows new_hangs plans once_merged q in
+      let a = plan_times v tree asked here rows hangs more l lt interval stays
+          (seen_loaded v tree asked here rows hangs more l lt interval stays loaded) (given_to pool link ∷ given) plan new_rows new_hangs plans once_merged q in
       let d = counts q in
       let e = chained_times given link run (slice_index pool.words 17) q chained in
       let p : times q (pool.row ∷ []) ≡ times q (v.plan.trees ∷ []) = ap (λ (n : ℕ). times q (n ∷ [])) pool_loaded.row in

@@ -6,6 +6,7 @@ use Rattle.lt_rows.specs.declared.image.RowImage.{RowImage}
 use Rattle.lt_rows.specs.declared.view.View.{View}
 use Rattle.lt_rows.specs.Nodes.{node_of}
 use Rattle.lt_rows.specs.Views.{row_at, words_of}
+use Rattle.lt_rows.specs.Lawful.{shown}
 use Rattle.lt_locktree.specs.Drawn.{Draws}
 
 -- the row stands at this place of the list
@@ -37,4 +38,10 @@ pub record PlansRows (tree : ℕ) (asked : Interval) (stays : RowImage) (others 
 pub record IsLoaded (v : View) (here : ℕ) (image : RowImage) : Type 0 where
   pub row : image.row ≡ here
   pub words : image.words ≡ words_of (row_at v here)
+  pub long : length image.words ≡ 21
+
+-- an image of the row with the owner, range and links that it has; an anchor's score may be another
+pub record ShowsRow (v : View) (here : ℕ) (image : RowImage) : Type 0 where
+  pub row : image.row ≡ here
+  pub node : shown v [] here ≡ node_of image.words
   pub long : length image.words ≡ 21
