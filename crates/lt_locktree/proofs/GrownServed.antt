@@ -125,7 +125,7 @@ module _ (pass : RowPass) (k : YardPlan) (tree : ℕ) (asked : Interval) (here :
         is_held : (q : ℕ) → 0 < times q (planned_rows plan) → IsIn (has (knows pass)) q
         is_held q some =
             let t = plan_times (knows pass) tree asked here rows hangs more l lt_here asked_is stays
-                (seen_loaded (knows pass) tree asked here rows hangs more l lt_here asked_is stays loaded) [] plan
+            (seen_loaded (knows pass) tree asked here rows hangs more l lt_here asked_is stays loaded) [] plan
             (take at rows ++ merged_row a.txn asked r [] ∷ drop (at + 1) rows) hangs plans_here once q in
             let s = ap (times q) same in
             let n = ap (times q) (numbers_are (knows pass) tree asked here rows hangs more l closed lt_here) in

@@ -96,9 +96,9 @@ module _ (v : View) (tree : ℕ) (asked : Interval) (here : ℕ) (rows : List Pa
   image_counts p h =
       ap node_of
       (planned_image v tree asked here rows hangs more l lt interval stays
-          (seen_loaded v tree asked here rows hangs more l lt interval stays loaded) (given_to pool link ∷ given) plan new_rows new_hangs plans once_merged p
+      (seen_loaded v tree asked here rows hangs more l lt interval stays loaded) (given_to pool link ∷ given) plan new_rows new_hangs plans once_merged p
       (other_planned v tree asked here rows hangs more l lt interval stays
-          (seen_loaded v tree asked here rows hangs more l lt interval stays loaded) (given_to pool link ∷ given) plan new_rows new_hangs plans once_merged p h))
+      (seen_loaded v tree asked here rows hangs more l lt interval stays loaded) (given_to pool link ∷ given) plan new_rows new_hangs plans once_merged p h))
 
   pool_link : (shown_after v plan v.plan.trees).left ≡ link
   pool_link =
@@ -122,7 +122,7 @@ module _ (v : View) (tree : ℕ) (asked : Interval) (here : ℕ) (rows : List Pa
   merged_only : PlansOnly (here ∷ v.plan.trees ∷ numbers rows) (planned_rows plan)
   merged_only q none =
       let a = plan_times v tree asked here rows hangs more l lt interval stays
-          (seen_loaded v tree asked here rows hangs more l lt interval stays loaded) (given_to pool link ∷ given) plan new_rows new_hangs plans once_merged q in
+      (seen_loaded v tree asked here rows hangs more l lt interval stays loaded) (given_to pool link ∷ given) plan new_rows new_hangs plans once_merged q in
       let d = counts q in
       let e = chained_times given link run (slice_index pool.words 17) q chained in
       let p : times q (pool.row ∷ []) ≡ times q (v.plan.trees ∷ []) = ap (λ (n : ℕ). times q (n ∷ [])) pool_loaded.row in

@@ -107,7 +107,7 @@ grown_plan_commits v tree asked here ahead r behind hangs more stays plan e l cl
     let once = λ (q : ℕ). once_grown v tree asked here rows hangs more l closed lt new_rows same q in
     let laid = laid_part v tree asked here rows hangs more l lt interval stays loaded [] plan new_rows hangs plans once in
     let counts = plan_times v tree asked here rows hangs more l lt interval stays
-        (seen_loaded v tree asked here rows hangs more l lt interval stays loaded) [] plan new_rows hangs plans once in
+    (seen_loaded v tree asked here rows hangs more l lt interval stays loaded) [] plan new_rows hangs plans once in
     merged_ask_commits v tree asked here ahead r [] behind hangs more plan e (pos 0) l closed lt interval between
     (λ p h. elim h [ inl x ↦ ap (is_own e.txn asked) x ∙ own | inr z ↦ absurd z ])
     (subst (λ (hs : List ℕ). LaysPart v plan l.place here new_rows hs) (sym hangs_is) laid)
@@ -188,10 +188,10 @@ module _ (v : View) (tree : ℕ) (asked : Interval) (here : ℕ) (rows : List Pa
           gives = ap (λ (n : ℕ). (shown_after v plan n).left) (sym pool_loaded.row)
               ∙ (ap (λ (ws : List ℕ). (node_of ws).left)
               (planned_image v tree asked here rows hangs more l lt interval stays
-                  (seen_loaded v tree asked here rows hangs more l lt interval stays loaded) (taken_from pool vacant ∷ []) plan new_rows new_hangs plans once_put
+              (seen_loaded v tree asked here rows hangs more l lt interval stays loaded) (taken_from pool vacant ∷ []) plan new_rows new_hangs plans once_put
               (taken_from pool vacant)
               (other_planned v tree asked here rows hangs more l lt interval stays
-                  (seen_loaded v tree asked here rows hangs more l lt interval stays loaded) (taken_from pool vacant ∷ []) plan new_rows new_hangs plans once_put
+              (seen_loaded v tree asked here rows hangs more l lt interval stays loaded) (taken_from pool vacant ∷ []) plan new_rows new_hangs plans once_put
               (taken_from pool vacant) (inl refl)))
               ∙ link_left pool.words (slice_index vacant.words 17) pool_loaded.long);
         }
@@ -199,7 +199,7 @@ module _ (v : View) (tree : ℕ) (asked : Interval) (here : ℕ) (rows : List Pa
     pub put_only : PlansOnly (here ∷ v.plan.trees ∷ vacant.row ∷ numbers rows) (planned_rows plan)
     put_only q none =
         let a = plan_times v tree asked here rows hangs more l lt interval stays
-            (seen_loaded v tree asked here rows hangs more l lt interval stays loaded) (taken_from pool vacant ∷ []) plan new_rows new_hangs plans once_put q in
+        (seen_loaded v tree asked here rows hangs more l lt interval stays loaded) (taken_from pool vacant ∷ []) plan new_rows new_hangs plans once_put q in
         let d = counts q in
         let p : times q (pool.row ∷ []) ≡ times q (v.plan.trees ∷ []) = ap (λ (n : ℕ). times q (n ∷ [])) pool_loaded.row in
         omega arith

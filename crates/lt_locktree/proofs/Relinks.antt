@@ -1,10 +1,12 @@
 -- A row with another link: all else that it holds stays.
 use Rattle.std.proofs.Common.{◌≡◌, ◌≢◌, ℕ, ◌+◌, ◌≤◌, zero, suc, Bool, true, false, ◌||◌, List, [], ◌∷◌, length, set, take, drop, if◌then◌else◌, refl, ap, ◌∙◌, arith, get_or-set_other, get_or-set_same, eq-eqb, ne_eqb}
-use Rattle.std.specs.Prelude.{nat_eq}
+use Rattle.std.specs.Prelude.{nat_eq, nat_lt, slice_index, ◌&&◌}
 use Rattle.lt_ranges.specs.Interval.{Interval, before}
 use Rattle.lt_seq.specs.declared.event.Mode.TheVariants.{Tree as TreeMode, Buffer}
 use Rattle.lt_rows.specs.declared.image.RowImage.{RowImage}
 use Rattle.lt_rows.specs.Nodes.{key_of, upwards, node_of, mode_of, mode_by}
+use Rattle.lt_seq.specs.Table.{raised}
+use Rattle.lt_locktree.specs.Leavings.{scored}
 use Rattle.lt_locktree.specs.PlannedParts.{hangs_left, relinked}
 
 front_same : (n : ℕ) (xs : List ℕ) (i x : ℕ) → n ≤ i → take n (set xs i x) ≡ take n xs
@@ -46,6 +48,35 @@ mode_same ws l =
     let score = get_or-set_other ws 17 19 l 0 (λ e. omega arith) in
     let count = get_or-set_other ws 17 20 l 0 (λ e. omega arith) in
     λ j. mode_by (nat_eq (owner j) 0) (TreeMode (score j)) (Buffer (owner j) (count j))
+
+-- a row with another score
+
+pub score_set : (ws : List ℕ) (s : ℕ) → node_of (set ws 19 s) ≡ node_of ws
+unfolding node_of
+score_set ws s =
+    let owner = get_or-set_other ws 19 0 s 0 (λ e. omega arith) in
+    let low = part_same 1 8 ws 19 s (omega arith) in
+    let high = part_same 9 8 ws 19 s (omega arith) in
+    let left = get_or-set_other ws 19 17 s 0 (λ e. omega arith) in
+    let right = get_or-set_other ws 19 18 s 0 (λ e. omega arith) in
+    λ j. record { owner = owner j; range = upwards (key_of (low j)) (key_of (high j)); left = left j; right = right j }
+
+raised_by : (first b : Bool) (s owner count : ℕ)
+    → mode_by b (TreeMode (if first && nat_lt s 100 then s + 1 else s)) (Buffer owner count) ≡ raised first (mode_by b (TreeMode s) (Buffer owner count))
+raised_by first true s owner count = refl
+raised_by first false s owner count = refl
+
+pub score_raised : (first : Bool) (stays : RowImage) → length stays.words ≡ 21 → mode_of (scored first stays).words ≡ raised first (mode_of stays.words)
+unfolding mode_of
+score_raised first stays long =
+    let ws : List ℕ = stays.words in
+    let s : ℕ = slice_index ws 19 in
+    let now : ℕ = if first && nat_lt s 100 then s + 1 else s in
+    let owner = get_or-set_other ws 19 0 now 0 (λ e. omega arith) in
+    let score = get_or-set_same ws 19 now 0 (omega arith) in
+    let count = get_or-set_other ws 19 20 now 0 (λ e. omega arith) in
+    (λ j. mode_by (nat_eq (owner j) 0) (TreeMode (score j)) (Buffer (owner j) (count j)))
+    ∙ raised_by first (nat_eq (slice_index ws 0) 0) s (slice_index ws 0) (slice_index ws 20)
 
 -- on which side the link is set
 

@@ -1,5 +1,5 @@
 //! A free by which rows of a part go.
-ghost use Rattle.std.specs.Prelude.{◌≡◌, ◌+◌, ◌-◌, ◌^◌, ◌<◌, pos, ◌+ℤ◌, ℕ, List, [], All, IfOk, IfErr, true, false, length, map};
+ghost use Rattle.std.specs.Prelude.{◌≡◌, ◌⊎◌, ◌+◌, ◌-◌, ◌^◌, ◌<◌, pos, ◌+ℤ◌, ℕ, List, [], All, IfOk, IfErr, true, false, length, map};
 ghost use Rattle.lt_seq.specs.declared.event.Deed.TheVariants.{Free};
 ghost use Rattle.lt_seq.specs.Pairs.{count_freed};
 ghost use Rattle.lt_forest.specs.declared.part.PartRow.{PartRow};
@@ -13,7 +13,7 @@ ghost use Rattle.lt_tree.specs.Pools.{pool_rows};
 ghost use Rattle.lt_tree.specs.declared.pool.PoolRows.TheVariants.{Nothing};
 ghost use Rattle.lt_locktree.specs.LawsOfFrees.{freed_rows};
 ghost use Rattle.lt_locktree.specs.Makes.{IsOf, Makes};
-ghost use Rattle.lt_locktree.specs.Leavings.{IsLeftOut, PlansFreed};
+ghost use Rattle.lt_locktree.specs.Leavings.{IsLeftOut, PlansFreed, scored};
 
 use crate::asking::Asking;
 use crate::giving::chain;
@@ -52,6 +52,20 @@ pub fn plan_freed(
     Ok(images)
 }
 
+// The row that stays, as an anchor with the score that a free leaves.
+fn with_score(stays: &RowImage, first: bool) -> RowImage
+    ensures { result ≡ scored first stays.now }
+{
+    let mut image = *stays;
+    let score = image.words[19];
+    image.words[19] = if first && score < 100 {
+        score + 1
+    } else {
+        score
+    };
+    image
+}
+
 // The change of the used rows that makes them fewer by so many.
 fn fewer(rows: usize) -> i64
     requires { rows < 9223372036854775808 }
@@ -60,7 +74,8 @@ fn fewer(rows: usize) -> i64
     -(rows as i64)
 }
 
-/// Frees the range for the transaction, by an event that ends the search: the rows that go are given to the pool. No score rises by it.
+/// Frees the range for the transaction, by an event that ends the search: the rows that go are given to the pool. By a release's first
+/// free, whose search holds the anchor, the tree's score rises by one, up to 100.
 ///
 /// # Errors
 /// `Busy` with the pool's anchor, only where it was met held by another pass, which never comes to a pass with all the rights; or want
@@ -70,12 +85,14 @@ pub fn free_rows<'a>(
     locked: Locked<'a>,
     asking: &Asking,
     left: &LeftOut,
+    first: bool,
 ) -> Result<(RowPass, Receipt), (RowPass, Fault)>
     requires fresh { (knows locked.pass).fresh ≡ true }
     requires locked { IsLockedWith (knows locked.pass) locked.tree locked.asked locked.held locked.part.rows.items
         locked.part.hangs.items (pool_rows (knows locked.pass).plan.trees locked.pool) }
     requires closed { IsClosed locked.asked locked.part.rows.items locked.part.hangs.items }
     requires asking { IsOf locked.pass locked.tree locked.asked asking.now }
+    requires anchor { (first ≡ false) ⊎ (locked.held ≡ locked.tree) }
     requires left { IsLeftOut asking.now.txn asking.now.range locked.part.rows.items locked.part.hangs.items left.now }
     ensures of { IfOk result (λ r. IsPassOf locked.entry.table.now r.0 × IsSamePass locked.entry.pass r.0 × HoldsNone (knows r.0)) }
     ensures made { IfOk result (λ r. (u : View) × (plan : List Image) × OnlyRows (knows locked.entry.pass) u
@@ -83,7 +100,7 @@ pub fn free_rows<'a>(
     ensures event { IfOk result (λ r. r.1.event ≡ record {
       pass = asking.now.pass;
       txn = asking.now.txn;
-      deed = Free asking.now.tree asking.now.range false
+      deed = Free asking.now.tree asking.now.range first
           (count_freed asking.now.txn asking.now.range (map row_pair locked.entry.part.rows.items));
     }) }
     ensures handed { IfErr result (λ r. IsPassOf locked.entry.table.now r.0 × IsSamePass locked.entry.pass r.0 × HoldsNone (knows r.0)
@@ -96,9 +113,10 @@ pub fn free_rows<'a>(
     }
     let here = locked.held();
     let stays = locked.image(here);
+    let raised = with_score(&stays, first);
     let anchor = locked.pool_row();
     let pool = locked.image(anchor);
-    let Ok(plan) = plan_freed(alloc, &stays, &pool, asking, left) else {
+    let Ok(plan) = plan_freed(alloc, &raised, &pool, asking, left) else {
         return Err((locked.release(), Fault::OutOfMemory));
     };
     let count = left.gone.len();
@@ -108,7 +126,7 @@ pub fn free_rows<'a>(
         deed: Deed::Free {
             tree: asking.tree,
             range: asking.range,
-            first: false,
+            first,
             count: count as u64,
         },
     };
@@ -147,7 +165,7 @@ fn free_none<'a>(locked: Locked<'a>, asking: &Asking) -> (RowPass, Receipt)
 }
 
 /// Frees the range for the transaction, by an event that ends the search. Where two links would come to hang side by side, the part is
-/// widened first. No score rises by it.
+/// widened before. By a release's first free, whose search holds the anchor, the tree's score rises by one, up to 100.
 ///
 /// # Errors
 /// `Busy` only where a row was met held by another pass, which never comes to a pass with all the rights; or want of memory. There is
@@ -156,19 +174,21 @@ pub fn free_in_tree<'a>(
     alloc: Global,
     locked: Locked<'a>,
     asking: &Asking,
+    first: bool,
 ) -> Result<(RowPass, Receipt), (RowPass, Fault)>
     requires fresh { (knows locked.pass).fresh ≡ true }
     requires locked { IsLocked (knows locked.pass) locked.tree locked.asked locked.held locked.part.rows.items locked.part.hangs.items }
     requires pool { locked.pool ≡ Nothing }
     requires closed { IsClosed locked.asked locked.part.rows.items locked.part.hangs.items }
     requires asking { IsOf locked.pass locked.tree locked.asked asking.now }
+    requires anchor { (first ≡ false) ⊎ (locked.held ≡ locked.tree) }
     ensures of { IfOk result (λ r. IsPassOf locked.entry.table.now r.0 × IsSamePass locked.entry.pass r.0 × HoldsNone (knows r.0)) }
     ensures made { IfOk result (λ r. (u : View) × (plan : List Image) × OnlyRows (knows locked.entry.pass) u
         × Makes u (knows r.0) plan r.1.event r.1.place) }
     ensures event { IfOk result (λ r. (count : ℕ) × (r.1.event ≡ record {
       pass = asking.now.pass;
       txn = asking.now.txn;
-      deed = Free asking.now.tree asking.now.range false count;
+      deed = Free asking.now.tree asking.now.range first count;
     })) }
     ensures handed { IfErr result (λ r. IsPassOf locked.entry.table.now r.0 × IsSamePass locked.entry.pass r.0 × HoldsNone (knows r.0)
         × OnlyRows (knows locked.entry.pass) (knows r.0)) }
@@ -176,8 +196,8 @@ pub fn free_in_tree<'a>(
 {
     let mut locked = locked;
     match leave_widened(alloc, &mut locked, asking) {
-        Ok(left) if left.gone.is_empty() => Ok(free_none(locked, asking)),
-        Ok(left) => free_rows(alloc, locked, asking, &left),
+        Ok(left) if left.gone.is_empty() && !first => Ok(free_none(locked, asking)),
+        Ok(left) => free_rows(alloc, locked, asking, &left, first),
         Err(fault) => Err((locked.release(), fault)),
     }
 }

@@ -1,4 +1,4 @@
-use Rattle.std.proofs.Common.{rules, ◌≡◌, ℕ, ◌-◌, ◌^◌, ◌<◌, List, length, false, not, refl, sym, ap, ◌∙◌, subst, eq-eqb, arith, All, ℤ, pos, ◌+ℤ◌, w64, FitsSigned}
+use Rattle.std.proofs.Common.{rules, ◌≡◌, ◌⊎◌, ℕ, ◌-◌, ◌^◌, ◌<◌, List, length, false, not, refl, sym, ap, ◌∙◌, subst, eq-eqb, arith, All, ℤ, pos, ◌+ℤ◌, w64, FitsSigned}
 use Rattle.std.specs.Prelude.{nat_eq}
 use Rattle.std.proofs.lemmas.Int.{to_z-of_z}
 use Rattle.std.proofs.lemmas.List.Elements.{All-filter}
@@ -17,7 +17,7 @@ use Rattle.lt_tree.specs.declared.pool.PoolRows.{PoolRows}
 use Rattle.lt_tree.specs.Gathers.{IsClosed}
 use Rattle.lt_tree.specs.Pools.{pool_rows}
 use Rattle.lt_locktree.specs.LawsOfFrees.{goes}
-use Rattle.lt_locktree.specs.Leavings.{IsLeftOut}
+use Rattle.lt_locktree.specs.Leavings.{IsLeftOut, PlansFreed}
 use Rattle.lt_locktree.specs.Makes.{IsOf}
 use Rattle.lt_locktree.specs.PlannedParts.{IsLoaded}
 use Rattle.lt_locktree.proofs.FreeServed.{anchor_in, left_count, free_all}
@@ -45,7 +45,7 @@ plan_freed-requires-clause-small c =
 served : (c : goal.After-fewer) (change : ℤ) → change +ℤ pos (length c.args.left.now.gone.items) ≡ pos 0
     → AllHeld (knows c.pool.new.self.pass).held c.in-Ok.plan.items
     × IsCommit (knows c.pool.new.self.pass).plan (knows c.pool.new.self.pass)
-    record { pass = c.args.asking.now.pass; txn = c.args.asking.now.txn; deed = Free c.args.asking.now.tree c.args.asking.now.range false (length c.args.left.now.gone.items) }
+    record { pass = c.args.asking.now.pass; txn = c.args.asking.now.txn; deed = Free c.args.asking.now.tree c.args.asking.now.range c.args.first (length c.args.left.now.gone.items) }
     c.in-Ok.plan.items change
 served c change counts =
     let s = c.pool.new.self in
@@ -63,6 +63,8 @@ served c change counts =
     subst (λ (x : Interval × Part). IsClosed x.0 x.1.rows.items x.1.hangs.items) (λ j. (sym kept.2 j, sym kept.4 j)) c.requires.closed in
     let of : IsOf s.pass s.tree s.asked a =
     (c.requires.asking.0 ∙ sym c.pool.ensures.same.0.0, c.requires.asking.1 ∙ sym kept.1, c.requires.asking.2 ∙ sym kept.2) in
+    let top : (c.args.first ≡ false) ⊎ (s.held ≡ s.tree) =
+    subst (λ (x : ℕ × ℕ). (c.args.first ≡ false) ⊎ (x.0 ≡ x.1)) (λ j. (sym kept.3 j, sym kept.1 j)) c.requires.anchor in
     let loaded : IsLoaded v s.held stays =
     record {
       row = c.image-stays.ensures.words.0 ∙ c.held-here.ensures;
@@ -78,9 +80,10 @@ served c change counts =
     free_all s.pass s.table.now.plan s.tree s.asked s.held s.part.rows.items s.part.hangs.items (pool_rows v.plan.trees s.pool) c.pool.ensures.locked
     closed s.of.0.1 s.of.2 a of interval s.pass.numbered.0
     (subst (λ (p : PoolRows). 0 < times v.plan.trees (pool_rows v.plan.trees p)) (sym c.in_default.ensures.pool) (anchor_in v.plan.trees c.args.locked.pool))
-    stays pool loaded pool_loaded c.args.left.now
+    c.args.first top stays pool loaded pool_loaded c.args.left.now
     (subst (λ (p : Part). IsLeftOut a.txn a.range p.rows.items p.hangs.items c.args.left.now) (sym kept.4) c.requires.left)
-    c.in-Ok.plan.items c.in-Ok.ensures change counts
+    c.in-Ok.plan.items
+    (subst (λ (p : RowImage). PlansFreed a.tree a.range p pool c.args.left.now c.in-Ok.plan.items) c.with_score-raised.ensures c.in-Ok.ensures) change counts
 
 same_view : (c : goal.After-fewer) → knows c.image-pool.new.self.pass ≡ knows c.pool.new.self.pass
 same_view c = c.image-pool.ensures.same.1 ∙ c.image-stays.ensures.same.1
@@ -98,7 +101,7 @@ pub finish-pass-requires-clause-lawful : goal.finish-pass-requires-clause-lawful
 finish-pass-requires-clause-lawful c =
     let fits : FitsSigned w64 c.fewer.result = record { sfits = c.fewer.type_inv } in
     subst (λ (x : (View × List RowImage) × (ℤ × ℕ)). IsCommit x.0.0.plan x.0.0
-    record { pass = c.args.asking.now.pass; txn = c.args.asking.now.txn; deed = Free c.args.asking.now.tree c.args.asking.now.range false x.1.1 } x.0.1 x.1.0)
+    record { pass = c.args.asking.now.pass; txn = c.args.asking.now.txn; deed = Free c.args.asking.now.tree c.args.asking.now.range c.args.first x.1.1 } x.0.1 x.1.0)
     (λ j. ((sym (same_view c) j, sym c.deref.ensures.value j), (sym (to_z-of_z w64 c.fewer.result fits) j, sym (count_is c) j)))
     (served c c.fewer.result (ap (λ (n : ℕ). c.fewer.result +ℤ pos n) (sym (count_is c)) ∙ c.fewer.ensures)).1
 
@@ -108,4 +111,4 @@ returns-clause-event c =
     let s = c.args.locked in
     let n : c.len-count.result ≡ length c.args.left.now.gone.items = c.len-count.ensures ∙ (search rules) in
     let count = n ∙ sym (left_count a.txn a.range s.part.rows.items s.part.hangs.items c.args.left.now c.requires.left) in
-    λ j. record { pass = a.pass; txn = a.txn; deed = Free a.tree a.range false (count j) }
+    λ j. record { pass = a.pass; txn = a.txn; deed = Free a.tree a.range c.args.first (count j) }
