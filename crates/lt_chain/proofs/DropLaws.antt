@@ -65,7 +65,7 @@ sized_some : (buffer : ℕ) (pairs : List Pair) (mode : Mode) (owner count : ℕ
 sized_some buffer pairs mode owner count e s =
     let t = subst (IsSized buffer pairs) e s in let a = t.some in let b = t.fewer in omega arith
 
-ended_here : (v : View) (tree : ℕ) (rows : List ℕ) → tree < v.plan.trees → HoldsChain v tree rows → Teaches v → Ended v.plan rows
+pub ended_here : (v : View) (tree : ℕ) (rows : List ℕ) → tree < v.plan.trees → HoldsChain v tree rows → Teaches v → Ended v.plan rows
 ended_here v tree rows lt h t =
     let owner : ℕ = h.shows.buffer.0 in
     let count : ℕ = h.shows.buffer.1 in

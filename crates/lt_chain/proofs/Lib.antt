@@ -6,6 +6,6 @@ mod AddLaws
 mod WalkLaws
 mod PairLaws
 mod ReadLaws
-mod DropLaws
+pub mod DropLaws
 mod HandingLaws
 mod WorkedLaws

@@ -27,3 +27,4 @@ pub mod CallLaws
 pub mod EndingLaws
 pub mod SplitLaws
 pub mod PutInServed
+pub mod EndedPlans

@@ -15,3 +15,4 @@ pub mod Calls
 pub mod LawsOfCalls
 pub mod Endings
 pub mod Splits
+pub mod EndingPlans

@@ -3,6 +3,7 @@ ghost use Rattle.lt_locktree.specs.LawsOfCalls.{MakesOneCall, MakesNext};
 ghost use Rattle.lt_locktree.specs.LawsOfDeeds.{WhoCommits, HeldAskCommits};
 ghost use Rattle.lt_locktree.specs.Endings.{ChainHoldsBuffer, FreeEndsBuffer, GrantedAskEndsBuffer, HeldAskEndsBuffer};
 ghost use Rattle.lt_locktree.specs.Endings.{JoinEndsBuffer, LaidBufferCommits, WhoEndsBuffer};
+ghost use Rattle.lt_locktree.specs.EndingPlans.{GivenPlanLaysOut, KeptPlanLaysOut, TakenPlanLaysOut};
 ghost use Rattle.lt_locktree.specs.LawsOfFrees.{FreeCommits, NoneFreedCommits};
 ghost use Rattle.lt_locktree.specs.LawsOfFreePlans.{FreePlanCommits};
 ghost use Rattle.lt_locktree.specs.LawsOfGrants.{MergedAskCommits, PutInAskCommits};
@@ -61,4 +62,12 @@ pub fn buffers_are_laid_out()
     ensures granted { GrantedAskEndsBuffer }
     ensures freed { FreeEndsBuffer }
     ensures joined { JoinEndsBuffer }
+{}
+
+/// The plans of such events, as they are made: where the chain's rows are as many as the pairs, where some are over, and where
+/// one more is taken.
+pub fn plans_of_laid_out_buffers()
+    ensures kept { KeptPlanLaysOut }
+    ensures given { GivenPlanLaysOut }
+    ensures taken { TakenPlanLaysOut }
 {}
