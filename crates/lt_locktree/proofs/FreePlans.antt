@@ -48,7 +48,7 @@ parted txn range (r ∷ rows) q = by (goes txn range r) (parted txn range rows q
 
 -- and the order is of no matter
 
-times_reversed : (rows : List PartRow) (q : ℕ) → times q (numbers (reverse rows)) ≡ times q (numbers rows)
+pub times_reversed : (rows : List PartRow) (q : ℕ) → times q (numbers (reverse rows)) ≡ times q (numbers rows)
 times_reversed [] q = refl
 times_reversed (r ∷ rows) q =
     ap (λ (rs : List PartRow). times q (numbers rs)) (reverse-append (r ∷ []) rows)

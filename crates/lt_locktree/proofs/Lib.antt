@@ -28,3 +28,4 @@ pub mod EndingLaws
 pub mod SplitLaws
 pub mod PutInServed
 pub mod EndedPlans
+pub mod EndedRows

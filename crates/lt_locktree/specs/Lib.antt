@@ -16,3 +16,4 @@ pub mod LawsOfCalls
 pub mod Endings
 pub mod Splits
 pub mod EndingPlans
+pub mod EndingRows

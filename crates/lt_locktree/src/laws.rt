@@ -4,6 +4,7 @@ ghost use Rattle.lt_locktree.specs.LawsOfDeeds.{WhoCommits, HeldAskCommits};
 ghost use Rattle.lt_locktree.specs.Endings.{ChainHoldsBuffer, FreeEndsBuffer, GrantedAskEndsBuffer, HeldAskEndsBuffer};
 ghost use Rattle.lt_locktree.specs.Endings.{JoinEndsBuffer, LaidBufferCommits, WhoEndsBuffer};
 ghost use Rattle.lt_locktree.specs.EndingPlans.{GivenPlanLaysOut, KeptPlanLaysOut, TakenPlanLaysOut};
+ghost use Rattle.lt_locktree.specs.EndingRows.{AllPairsStand, ChainIsEnough, FirstRowsTakeOver, HeldPairsAreRead, VacantRowTakesOver};
 ghost use Rattle.lt_locktree.specs.LawsOfFrees.{FreeCommits, NoneFreedCommits};
 ghost use Rattle.lt_locktree.specs.LawsOfFreePlans.{FreePlanCommits};
 ghost use Rattle.lt_locktree.specs.LawsOfGrants.{MergedAskCommits, PutInAskCommits};
@@ -70,4 +71,13 @@ pub fn plans_of_laid_out_buffers()
     ensures kept { KeptPlanLaysOut }
     ensures given { GivenPlanLaysOut }
     ensures taken { TakenPlanLaysOut }
+{}
+
+/// The rows that such a plan has: the pairs stand in the chain's rows, and one more stands in a row of the pool.
+pub fn rows_of_laid_out_buffers()
+    ensures pairs { AllPairsStand }
+    ensures read { HeldPairsAreRead }
+    ensures enough { ChainIsEnough }
+    ensures first { FirstRowsTakeOver }
+    ensures vacant { VacantRowTakesOver }
 {}
