@@ -1,1 +1,2 @@
 pub mod WatchLaws
+pub mod PassLaws

@@ -1,6 +1,6 @@
 //! A thread's part in the lock table.
-use lt_locktree::TreePass;
-use lt_seq::{JoinNote, Pass, Receipt};
+use lt_locktree::{Locktree, TreePass};
+use lt_seq::{Fault, JoinNote, Look, PLACES_END, Pass, Receipt};
 use std::marker::Model;
 
 /// A thread's part in a `Manager`: it keeps the receipts of its calls, and the notes of its joins until they are taken.
@@ -34,5 +34,45 @@ impl Pass for ManagerPass {
 
     fn rights(&self) -> u32 {
         self.pass.rights()
+    }
+}
+
+impl ManagerPass {
+    ghost use Rattle.std.specs.Prelude.{◌≡◌, ◌<◌, true, OnOk, IfOk, IfErr};
+    ghost use Rattle.lt_seq.specs.SeqPass.{plain};
+    ghost use Rattle.lt_seq.specs.Yard.{shows, Watches, Caused, place_after, places_end};
+    ghost use Rattle.lt_rows.specs.Views.{is_near, is_below};
+    ghost use Rattle.lt_locktree.specs.Calls.{sees, IsOfTable, StaysOf};
+    ghost use Rattle.lt_manager.specs.Views.{view_of};
+
+    /// The place of the next event, and the rows in use.
+    pub(crate) fn look(&mut self, table: &Locktree) -> Look
+        requires of { IsOfTable table.now self.old.pass }
+        ensures of { StaysOf table.now self.old.pass self.new.pass }
+        ensures seen { result ≡ shows (plain (sees self.old.pass).plan) (sees self.new.pass).front }
+        ensures watches { Watches (plain (sees self.old.pass).plan) (view_of self.old) (view_of self.new) }
+        ensures fresh { (sees self.new.pass).fresh ≡ is_near (sees self.old.pass).plan (sees self.new.pass).front }
+        ensures licensed { (sees self.new.pass).licensed ≡ is_below (sees self.old.pass).plan (sees self.new.pass).front }
+    {
+        table.look(&mut self.pass)
+    }
+
+    /// Looks, and answers what it saw where there is a place for an event.
+    pub(crate) fn look_for_place(&mut self, table: &Locktree) -> Result<Look, Fault>
+        requires of { IsOfTable table.now self.old.pass }
+        ensures of { StaysOf table.now self.old.pass self.new.pass }
+        ensures seen { IfOk result (λ look. look ≡ shows (plain (sees self.old.pass).plan) (sees self.new.pass).front) }
+        ensures room { OnOk result (place_after (plain (sees self.old.pass).plan) (sees self.new.pass).front < places_end) }
+        ensures fresh { OnOk result ((sees self.new.pass).fresh ≡ true) }
+        ensures licensed { (sees self.new.pass).licensed ≡ is_below (sees self.old.pass).plan (sees self.new.pass).front }
+        ensures watches { Watches (plain (sees self.old.pass).plan) (view_of self.old) (view_of self.new) }
+        ensures err { IfErr result (λ fault. Caused (plain (sees self.old.pass).plan) (view_of self.old) (view_of self.new) fault
+            (sees self.new.pass).front) }
+    {
+        let look = self.look(table);
+        if look.place >= PLACES_END {
+            return Err(Fault::HistoryFull { place: look.place });
+        }
+        Ok(look)
     }
 }
