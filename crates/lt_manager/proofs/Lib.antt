@@ -1,2 +1,3 @@
 pub mod WatchLaws
 pub mod PassLaws
+pub mod EventLaws
