@@ -16,6 +16,7 @@ mod owners;
 mod planning;
 mod questions;
 mod splitting;
+mod standing;
 mod tree_pass;
 
 pub use answers::{Asked, Named};
@@ -30,4 +31,5 @@ pub use owners::owners_of;
 pub use planning::plan_rows;
 pub use questions::{ask_who, refuse_ask};
 pub use splitting::overlapping;
+pub use standing::stand_pairs;
 pub use tree_pass::TreePass;
