@@ -4,6 +4,7 @@
 mod answers;
 mod asking;
 mod drawing;
+mod ending;
 mod freeing;
 mod giving;
 mod growing;
@@ -21,6 +22,7 @@ mod tree_pass;
 
 pub use answers::{Asked, Named};
 pub use asking::Asking;
+pub use ending::plan_tree;
 pub use freeing::{free_in_tree, free_rows, plan_freed};
 pub use growing::{grow_row, plan_grown};
 pub use inserting::{plan_put_in, put_in_row};
