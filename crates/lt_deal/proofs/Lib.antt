@@ -4,3 +4,4 @@ pub mod Gives
 pub mod Stocks
 pub mod Splits
 pub mod Opens
+pub mod Closes

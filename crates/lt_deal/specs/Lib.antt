@@ -3,3 +3,4 @@ pub mod Plays
 pub mod Seats
 pub mod Fresh
 pub mod Handles
+pub mod Closings

@@ -4,6 +4,7 @@ ghost use mathlib.Core.Option.{some};
 ghost use lib.ListN.{get_elem?};
 
 use crate::build::{fill, seats};
+use crate::close::{join, unpack};
 use crate::rule::Rule;
 use crate::seat::DealSeat;
 use crate::steps;
@@ -18,12 +19,13 @@ pub struct Deal<T> {
     pub(crate) count: usize,
     pub(crate) workers: u32,
     ghost sized: { (table.shared.table_id.words ≡ 1) × (table.shared.table_id.slots ≡ count) × (table.shared.key ≡ workers) },
-    ghost few: { (count ≤ 1024) × (workers ≤ 16) },
+    ghost few: { (count ≤ 1024) × (1 ≤ workers) × (workers ≤ 16) },
 }
 
 impl<T: Drop> Deal<T> {
     ghost use Rattle.lt_deal.specs.Handles.{knows, IsSeatOf, Rests, Holds};
     ghost use Rattle.lt_deal.specs.Fresh.{IsNewSeat};
+    ghost use Rattle.lt_deal.specs.Closings.{HasReturned, IsClosed, stock_of, drew_of, gave_of, nones_of};
 
     /// A deal of these items, each in the slot of its index, and a seat for each worker.
     ///
@@ -83,5 +85,28 @@ impl<T: Drop> Deal<T> {
             Some(_) => unreachable!(),
         }
         steps::give(shared, &mut seat.place, index as usize);
+    }
+
+    /// Ends the deal, and hands the items back in the order of their indexes. No index was drawn twice, and where a seat was
+    /// answered None each was drawn. At each index stands what was given back there, or the first item where none drew it.
+    ///
+    /// # Errors
+    /// Want of memory alone; the items are gone then.
+    pub fn close(self, alloc: Global, seats: Vec<DealSeat<T>>) -> Result<Vec<T>, AllocError>
+        requires all { (length seats.items ≡ self.workers) × (length (stock_of seats.items) ≡ self.count) }
+        requires returned { All (HasReturned self.table.shared.table_id) seats.items }
+        ensures { IfOk result (λ r. IsClosed (stock_of seats.items) (drew_of seats.items) (gave_of seats.items) (nones_of seats.items) r.items) }
+    {
+        let mut items = Vec::with_capacity(alloc, self.count)?;
+        let mut others = seats;
+        let DealSeat { mut place } = others.remove(0);
+        join(&self.table.shared, &mut place, others);
+        let Deal {
+            table,
+            count: _,
+            workers: _,
+        } = self;
+        unpack(table.close_with(place), &mut items);
+        Ok(items)
     }
 }

@@ -2,6 +2,7 @@
 #![tactic(auto)]
 
 mod build;
+mod close;
 mod crossing;
 mod deal;
 mod plays;
