@@ -46,7 +46,7 @@ pub split_first : {A : Type 0} (seats : List A) (d : A) (rest : List A) → 0 < 
 split_first [] d rest h e r = absurd (omega arith)
 split_first (x ∷ xs) d rest h e r = ap (λ z. z ∷ xs) (sym e) ∙ ap (λ l. d ∷ l) (sym r)
 
-map_both : {A B : Type 0} (f : A → B) (xs ys : List A) → map f (xs ++ ys) ≡ map f xs ++ map f ys
+pub map_both : {A B : Type 0} (f : A → B) (xs ys : List A) → map f (xs ++ ys) ≡ map f xs ++ map f ys
 map_both f [] ys = refl
 map_both f (x ∷ xs) ys = ap (λ l. f x ∷ l) (map_both f xs ys)
 

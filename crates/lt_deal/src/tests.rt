@@ -1,5 +1,6 @@
 //! Two seats on one thread draw three items in turns and give them back.
 ghost use Rattle.std.specs.Prelude.{◌≡◌, MatchOption};
+ghost use Rattle.lt_deal.specs.Closings.{HasReturned};
 ghost use Rattle.lt_deal.specs.Handles.{knows, IsSeatOf, Rests};
 
 use crate::deal::Deal;
@@ -7,10 +8,13 @@ use crate::seat::DealSeat;
 use std::test::Fail;
 
 /// Draws an item and gives it back.
+#[tactic(auto, using(crate::proofs::Closes::map_both))]
 fn turn(deal: &Deal<u8>, seat: &mut DealSeat<u8>) -> Option<(u32, u8)>
     requires of { IsSeatOf deal.now seat.old }
     requires rests { Rests seat.old × ((knows seat.old).nones ≡ 0) }
+    requires returned { HasReturned deal.now.table.shared.table_id seat.old }
     ensures of { IsSeatOf deal.now seat.new × Rests seat.new }
+    ensures returned { HasReturned deal.now.table.shared.table_id seat.new }
     ensures open { MatchOption result ((knows seat.new).nones ≡ 1) (λ _. (knows seat.new).nones ≡ 0) }
 {
     let (index, item) = deal.draw(seat)?;
@@ -39,5 +43,9 @@ fn two_seats_draw_three_items(rt: HostRuntime) -> Result<(), Fail> {
     assert!(rt; zeroth == (0, 10) && next == (1, 20) && last == (2, 30));
     assert!(rt; turn(&deal, &mut second).is_none());
     assert!(rt; turn(&deal, &mut first).is_none());
+    seats.push(first)?;
+    seats.push(second)?;
+    let items = deal.close(rt.alloc(), seats)?;
+    assert!(rt; items.as_slice() == [10, 20, 30].as_slice());
     Ok(())
 }
