@@ -9,3 +9,4 @@ pub mod SumLaws
 pub mod WorkerLaws
 pub mod ResultLaws
 pub mod StillLaws
+pub mod CallerLaws

@@ -1,3 +1,4 @@
 pub mod Crew
 pub mod Workers
 pub mod Rounds
+pub mod Caller

@@ -1,4 +1,5 @@
 //! Laws of crews.
+ghost use Rattle.lt_crew.specs.Caller.{CallerAsks, CallerPlaysOn};
 ghost use Rattle.lt_crew.specs.Rounds.{CallerMovesOne, CallersTurn, DealtAreMoved, RoundsAreARun, RoundsStand};
 
 /// Behind rounds each transaction of the trace has come as far as its own events of the one legal history tell, and no
@@ -28,4 +29,16 @@ pub fn caller_moves_one()
 /// Behind a round the transactions are where they were dealt, in whatever order they are told.
 pub fn dealt_are_moved()
     ensures { DealtAreMoved }
+{}
+
+/// A play by the caller of one that is not registered leaves a crew's transactions as they may be between two moves.
+#[tactic(auto, using(crate::proofs::CallerLaws::caller_plays_on))]
+pub fn caller_plays_on()
+    ensures { CallerPlaysOn }
+{}
+
+/// So does the answer of a start or a retry by the caller, where one that is out of locks is forgotten.
+#[tactic(auto, using(crate::proofs::CallerLaws::caller_asks))]
+pub fn caller_asks()
+    ensures { CallerAsks }
 {}

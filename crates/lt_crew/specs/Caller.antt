@@ -1,0 +1,56 @@
+-- What a crew's caller has of the transactions between two of its moves, and what a move of its own makes of them.
+use Rattle.std.specs.Prelude.{◌≡◌, ℕ, ◌+◌, ◌<◌, ◌≤◌, List, [], length, slice_index_or, slice_set, Some, false, Bool, Result}
+use Rattle.std.specs.List.{AllByRecursion}
+use Rattle.lt_seq.specs.declared.event.Event.{Event}
+use Rattle.lt_seq.specs.declared.fault.Fault.{Fault}
+use Rattle.lt_seq.specs.Table.{Setting}
+use Rattle.lt_seq.specs.Yard.{PassView, HasAll, IsPlan, IsSound, place_after, places_end}
+use Rattle.lt_trace.specs.declared.line.Line.{Line}
+use Rattle.lt_requests.specs.declared.wish.Wish.{Wish}
+use Rattle.lt_requests.specs.declared.started.Started.{Started}
+use Rattle.lt_requests.specs.Started.{IsStarted}
+use Rattle.lt_runner.specs.TurnView.{Seat}
+use Rattle.lt_runner.specs.Attempt.{bar_of}
+use Rattle.lt_runner.specs.Plays.{next_wish}
+use Rattle.lt_runner.specs.Played.{Search}
+use Rattle.lt_runner.specs.PlaysOn.{PlaysOn, IsFit}
+use Rattle.lt_runner.specs.Standing.{AreFitDeeds}
+use Rattle.lt_runner.specs.Listed.{IsRegistryOf, wishes_for, others_for}
+use Rattle.lt_runner.specs.Board.{IsAnswered, seat_so, registry_so}
+use Rattle.lt_crew.specs.Rounds.{AreRounds}
+
+-- the caller's pass while the workers rest: it has number 0 and all the rights
+pub record IsAlone (setting : Setting) (pass : PassView) : Type 0 where
+  pub number : pass.number ≡ 0
+  pub plan : IsPlan setting.plan
+  pub all : HasAll setting pass
+  pub sound : IsSound setting pass
+
+-- Rounds have led here from the opening. Each transaction may be played on, and the registry has the wishes of exactly those that are
+-- registered.
+pub record IsCrew (setting : Setting) (lines : List Line) (history : List Event) (registry : List Wish) (seats : List Seat) : Type 0 where
+  pub searches : List Search
+  pub rounds : AreRounds setting lines searches history seats
+  pub registered : IsRegistryOf registry seats
+  pub fit : AllByRecursion (IsFit setting) seats
+
+-- One that is not registered is played on, and is not registered then: it is so again.
+abbrev pub CallerPlaysOn : Type 0
+CallerPlaysOn =
+    (setting : Setting) (lines : List Line) (registry : List Wish) (seats : List Seat) (index : ℕ) (was is : Seat) (old new : PassView)
+    → IsAlone setting old → AreFitDeeds setting lines → index < length seats → was ≡ slice_index_or seats index was
+    → was.listed ≡ false → is.listed ≡ false → IsFit setting is → PlaysOn setting [] old new was is
+    → IsCrew setting lines old.front registry seats → IsCrew setting lines new.front registry (slice_set seats index is)
+
+-- A start of one that is not registered, or a retry of one that is, was answered: it is so again, where one that is out of locks is
+-- forgotten. A search is among the rounds then.
+abbrev pub CallerAsks : Type 0
+CallerAsks =
+    (setting : Setting) (lines : List Line) (bar : ℕ) (registry : List Wish) (seats : List Seat) (index : ℕ) (seat : Seat) (wish : Wish)
+    (listed : Bool) (old new : PassView) (left : List Wish) (result : Result Started Fault)
+    → IsAlone setting old → bar ≡ bar_of setting seat.turn → index < length seats → seat ≡ slice_index_or seats index seat
+    → seat.listed ≡ listed → next_wish seat.turn.txn seat.turn.lines ≡ Some wish
+    → place_after setting old.front + setting.plan.trees + 1 + length seats ≤ places_end
+    → IsStarted setting bar wish (others_for listed wish registry) (wishes_for listed wish registry) registry old new left result
+    → IsAnswered result → IsCrew setting lines old.front registry seats
+    → IsCrew setting lines new.front (registry_so wish.txn left result) (slice_set seats index (seat_so seat.turn result))
