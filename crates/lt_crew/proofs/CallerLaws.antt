@@ -1,9 +1,9 @@
 -- Moves of the caller, one transaction at a time.
-use Rattle.std.proofs.Common.{◌≡◌, ◌≢◌, ℕ, zero, suc, ◌<◌, List, [], ◌∷◌, ◌++◌, true, false, if◌then◌else◌, IsTrue, None, Result, Ok, Err, nat_cmp}
+use Rattle.std.proofs.Common.{◌≡◌, ◌≢◌, ℕ, zero, suc, ◌<◌, List, [], ◌∷◌, ◌++◌, true, false, if◌then◌else◌, IsTrue, None, Result, Ok, Err, nat_cmp, Bool, is_some, ◌+◌, ◌≤◌, Some}
 use Rattle.std.proofs.Common.{length, get_or, slice_set, refl, sym, ap, subst, ◌∙◌, arith}
 use Rattle.std.specs.List.{AllByRecursion, cons_option}
 use Rattle.std.specs.List.Sorted.{IsStrictlySortedBy}
-use Rattle.std.proofs.lemmas.List.{get_or-map, length-map}
+use Rattle.std.proofs.lemmas.List.{get_or-map, length-map, get_or_default}
 use Rattle.std.proofs.lemmas.Map.Keys.{below_from_sorted}
 use Rattle.std.proofs.lemmas.Bool.{false≢true}
 use Rattle.lt_ranges.specs.Numbers.{is_in}
@@ -11,17 +11,18 @@ use Rattle.lt_seq.specs.declared.event.Event.{Event}
 use Rattle.lt_seq.specs.declared.fault.Fault.{Fault}
 use Rattle.lt_seq.specs.declared.fault.Fault.TheVariants.{OutOfMemory, Busy, HistoryFull, OutOfLocks}
 use Rattle.lt_seq.specs.Table.{Setting}
-use Rattle.lt_seq.specs.Yard.{PassView}
+use Rattle.lt_seq.specs.Yard.{PassView, place_after, places_end}
 use Rattle.lt_trace.specs.declared.line.Line.{Line}
 use Rattle.lt_trace.specs.Grammar.{txns_of}
 use Rattle.lt_requests.specs.declared.wish.Wish.{Wish}
 use Rattle.lt_requests.specs.declared.started.Started.{Started}
 use Rattle.lt_requests.specs.declared.started.Started.TheVariants.{Granted as StartedGranted, Waits, Deadlock}
-use Rattle.lt_runner.specs.TurnView.{Seat}
-use Rattle.lt_runner.specs.Plays.{next_wish}
+use Rattle.lt_runner.specs.TurnView.{Turn, Seat}
+use Rattle.lt_runner.specs.Plays.{next_wish, has_last}
 use Rattle.lt_runner.specs.Played.{Search, Stands, AllStand}
 use Rattle.lt_runner.specs.PlaysOn.{PlaysOn, IsFit}
-use Rattle.lt_runner.specs.Standing.{AreFitDeeds}
+use Rattle.lt_runner.specs.Standing.{AreFitDeeds, IsStanding}
+use Rattle.lt_runner.specs.Work.{Spends}
 use Rattle.lt_runner.specs.StartsOn.{SearchesOn, StartsOn}
 use Rattle.lt_runner.specs.Listed.{listed_in, IsSeated, IsListedNow, wishes_for, others_for, IsAskingAt}
 use Rattle.lt_runner.specs.Board.{IsAnswered, seat_so}
@@ -29,9 +30,11 @@ use Rattle.lt_runner.proofs.ChoiceLaws.{on_false}
 use Rattle.lt_runner.proofs.StandingLaws.{seats_stand, waiters_have_lines}
 use Rattle.lt_runner.proofs.StartsOnLaws.{starts_play_on}
 use Rattle.lt_runner.proofs.RegisteredLaws.{seats_ask, registries_stay, seats_stay_fit}
+use Rattle.lt_runner.specs.Attempt.{bar_of}
+use Rattle.lt_runner.proofs.LockMoveLaws.{has_lock}
 use Rattle.lt_crew.specs.Crew.{numbers_in, AreDistinct, only}
 use Rattle.lt_crew.specs.Rounds.{AreRounds, worked, searched, AreOfTrace}
-use Rattle.lt_crew.specs.Caller.{IsAlone, CallerPlaysOn, CallerAsks}
+use Rattle.lt_crew.specs.Caller.{IsAlone, CallerPlaysOn, CallerAsks, IsSomeCrew, MayPlay, StaysCrew, IsCrew, IsCrewOf, MayAskNow, HasAsked, AsksStay}
 use Rattle.lt_crew.proofs.OwnLaws.{is_in_numbers}
 use Rattle.lt_crew.proofs.MovedLaws.{only_there, caller_moves_one}
 use Rattle.lt_crew.proofs.StandLaws.{caller_round}
@@ -85,9 +88,9 @@ sorted_distinct seats sorted j k d in_j in_k same =
     let at_j = number_at seats j d in_j in
     let at_k = number_at seats k d in_k in
     let up : j < k → get_or (numbers_in seats) j d.turn.txn < get_or (numbers_in seats) k d.turn.txn =
-        λ less. below_from_sorted (numbers_in seats) j k d.turn.txn sorted less (omega (arith, wide, in_k)) in
+    λ less. below_from_sorted (numbers_in seats) j k d.turn.txn sorted less (omega (arith, wide, in_k)) in
     let down : k < j → get_or (numbers_in seats) k d.turn.txn < get_or (numbers_in seats) j d.turn.txn =
-        λ less. below_from_sorted (numbers_in seats) k j d.turn.txn sorted less (omega (arith, wide, in_j)) in
+    λ less. below_from_sorted (numbers_in seats) k j d.turn.txn sorted less (omega (arith, wide, in_j)) in
     grind (arith, up, down, at_j, at_k, same)
 
 -- Rounds of one.
@@ -213,3 +216,90 @@ caller_asks setting lines bar registry seats index seat wish listed old new left
     behind : IsBehind setting lines new.front (slice_set seats index (seat_so seat.turn result))
     behind = answer_rounds setting lines crew.searches seats index seat (wishes_for listed wish registry) old new result alone crew.registered.sorted
         inside at asking.others crew.rounds on has
+
+-- One that does not wait.
+
+not_listed : (seat : Seat) → IsSeated seat → seat.turn.waits ≡ false → seat.listed ≡ false
+not_listed seat seated goes = by_test seat.listed refl
+  where
+    by_test : (b : Bool) → seat.listed ≡ b → seat.listed ≡ false
+    by_test true e = absurd (false≢true (sym goes ∙ seated.waits e))
+    by_test false e = e
+
+lines_left : (lines : List Line) → has_last lines ≡ true → lines ≢ []
+lines_left lines last none = false≢true (sym (ap has_last none) ∙ last)
+
+ended_not : (turn : Turn) → turn.outcome ≡ None → is_some turn.outcome ≡ false
+ended_not turn none = ap is_some none
+
+pub may_play : (setting : Setting) (pass : PassView) (seats : List Seat) (index : ℕ) (d : Seat) → IsSomeCrew setting pass.front seats →
+    index < length seats → (get_or seats index d).turn.waits ≡ false →
+    place_after setting pass.front + setting.plan.trees + length (get_or seats index d).turn.releases < places_end →
+    MayPlay setting pass (get_or seats index d)
+may_play setting pass seats index d some inside goes places = record {
+  fit = all_at (IsFit setting) seats index d inside some.crew.fit;
+  goes = goes;
+  left = λ none. lines_left (get_or seats index d).turn.lines (standing.last (ended_not (get_or seats index d).turn none));
+  places = places;
+}
+  where
+    standing : IsStanding setting (get_or seats index d).turn
+    standing = seats_stand setting some.crew.searches some.lines pass.front (get_or seats index d) some.deeds
+        (all_at (Stands true setting some.crew.searches some.lines pass.front) seats index d inside
+        (rounds_stand setting some.lines some.crew.searches pass.front seats some.crew.rounds).stand)
+
+pub stays_by_play : (setting : Setting) (seats : List Seat) (index : ℕ) (d is : Seat) (old new : PassView) → IsAlone setting old →
+    index < length seats → (get_or seats index d).turn.waits ≡ false → IsFit setting is → PlaysOn setting [] old new (get_or seats index d) is →
+    Spends setting old new (get_or seats index d) is → StaysCrew setting old.front new.front seats (slice_set seats index is)
+stays_by_play setting seats index d is old new alone inside goes fit plays spends lines registry deeds crew =
+    let was = get_or seats index d in
+    let free = not_listed was (all_at IsSeated seats index d inside crew.registered.seated) goes in
+    caller_plays_on setting lines registry seats index was is old new alone deeds inside (get_or_default seats index d was inside) free
+    (spends.listed free) fit plays crew
+
+-- One that waits.
+
+pub may_ask_now : (setting : Setting) (pass : PassView) (registry : List Wish) (seats : List Seat) (index : ℕ) (d : Seat) →
+    IsCrewOf setting pass.front registry seats → index < length seats → (get_or seats index d).turn.waits ≡ true →
+    place_after setting pass.front + setting.plan.trees + 1 + length seats ≤ places_end →
+    MayAskNow setting pass registry (get_or seats index d)
+may_ask_now setting pass registry seats index d of_crew inside waits room = record {
+  wish = wish;
+  next = next;
+  number = (has_lock seat.turn.txn wish seat.turn.lines next).own;
+  fit = all_at (IsFit setting) seats index d inside of_crew.crew.fit;
+  registered = asking.registered;
+  among = asking.own;
+  may_own = asking.may_own;
+  may = asking.may;
+  places = omega (arith, asking.few, room);
+}
+  where
+    seat : Seat
+    seat = get_or seats index d
+
+    standing : IsStanding setting seat.turn
+    standing = seats_stand setting of_crew.crew.searches of_crew.lines pass.front seat of_crew.deeds
+        (all_at (Stands true setting of_crew.crew.searches of_crew.lines pass.front) seats index d inside
+        (rounds_stand setting of_crew.lines of_crew.crew.searches pass.front seats of_crew.crew.rounds).stand)
+
+    wish : Wish
+    wish = (waiters_have_lines setting seat.turn standing waits).2.0
+
+    next : next_wish seat.turn.txn seat.turn.lines ≡ Some wish
+    next = (waiters_have_lines setting seat.turn standing waits).2.1
+
+    asking : IsAskingAt setting registry seats seat wish (wishes_for seat.listed wish registry)
+    asking = seats_ask setting registry seats index seat d wish seat.listed of_crew.crew.registered of_crew.crew.fit inside refl refl next
+
+pub stays_by_ask : (setting : Setting) (registry registry_now : List Wish) (seats : List Seat) (index : ℕ) (d is : Seat) (old new : PassView) →
+    IsAlone setting old → index < length seats → place_after setting old.front + setting.plan.trees + 1 + length seats ≤ places_end →
+    HasAsked setting old new registry registry_now (get_or seats index d) is →
+    AsksStay setting old.front new.front registry registry_now seats (slice_set seats index is)
+stays_by_ask setting registry registry_now seats index d is old new alone inside room asked lines deeds crew =
+    let was = get_or seats index d in
+    let stays = caller_asks setting lines (bar_of setting was.turn) registry seats index was asked.wish was.listed old new asked.left asked.answer
+    alone refl inside (get_or_default seats index d was inside) refl asked.next room asked.started asked.has crew in
+    subst (λ (s : Seat). IsCrew setting lines new.front registry_now (slice_set seats index s)) (sym asked.seat_is)
+    (subst (λ (ws : List Wish). IsCrew setting lines new.front ws (slice_set seats index (seat_so was.turn asked.answer))) (sym asked.registry_is)
+    stays)

@@ -10,3 +10,4 @@ pub mod WorkerLaws
 pub mod ResultLaws
 pub mod StillLaws
 pub mod CallerLaws
+pub mod AskingLaws

@@ -1,5 +1,5 @@
 -- What a crew's caller has of the transactions between two of its moves, and what a move of its own makes of them.
-use Rattle.std.specs.Prelude.{◌≡◌, ℕ, ◌+◌, ◌<◌, ◌≤◌, List, [], length, slice_index_or, slice_set, Some, false, Bool, Result}
+use Rattle.std.specs.Prelude.{◌≡◌, ◌≢◌, ◌⊎◌, ℕ, ◌+◌, ◌<◌, ◌≤◌, List, [], length, slice_index_or, slice_set, None, Some, true, false, Bool, Result}
 use Rattle.std.specs.List.{AllByRecursion}
 use Rattle.lt_seq.specs.declared.event.Event.{Event}
 use Rattle.lt_seq.specs.declared.fault.Fault.{Fault}
@@ -8,12 +8,15 @@ use Rattle.lt_seq.specs.Yard.{PassView, HasAll, IsPlan, IsSound, place_after, pl
 use Rattle.lt_trace.specs.declared.line.Line.{Line}
 use Rattle.lt_requests.specs.declared.wish.Wish.{Wish}
 use Rattle.lt_requests.specs.declared.started.Started.{Started}
+use Rattle.lt_requests.specs.Registered.{MayAsk, may_ask, is_registered}
 use Rattle.lt_requests.specs.Started.{IsStarted}
 use Rattle.lt_runner.specs.TurnView.{Seat}
 use Rattle.lt_runner.specs.Attempt.{bar_of}
 use Rattle.lt_runner.specs.Plays.{next_wish}
 use Rattle.lt_runner.specs.Played.{Search}
 use Rattle.lt_runner.specs.PlaysOn.{PlaysOn, IsFit}
+use Rattle.lt_runner.specs.Work.{steps}
+use Rattle.lt_runner.specs.StartsOn.{IsAmongWishes}
 use Rattle.lt_runner.specs.Standing.{AreFitDeeds}
 use Rattle.lt_runner.specs.Listed.{IsRegistryOf, wishes_for, others_for}
 use Rattle.lt_runner.specs.Board.{IsAnswered, seat_so, registry_so}
@@ -54,3 +57,67 @@ CallerAsks =
     → IsStarted setting bar wish (others_for listed wish registry) (wishes_for listed wish registry) registry old new left result
     → IsAnswered result → IsCrew setting lines old.front registry seats
     → IsCrew setting lines new.front (registry_so wish.txn left result) (slice_set seats index (seat_so seat.turn result))
+
+-- a play by the caller came to an end, or is a step on
+abbrev pub IsNearer : Seat → Seat → Type 0
+IsNearer was is = (steps is < steps was) ⊎ (steps is ≡ 0)
+
+-- The caller may play it on: it does not wait, and there are places for what it may do.
+pub record MayPlay (setting : Setting) (pass : PassView) (seat : Seat) : Type 0 where
+  pub fit : IsFit setting seat
+  pub goes : seat.turn.waits ≡ false
+  pub left : seat.turn.outcome ≡ None → seat.turn.lines ≢ []
+  pub places : place_after setting pass.front + setting.plan.trees + length seat.turn.releases < places_end
+
+-- One that waits may ask: it is registered exactly where it says so, and there are places for its ask and its search.
+pub record MayAskNow (setting : Setting) (pass : PassView) (registry : List Wish) (seat : Seat) : Type 0 where
+  pub wish : Wish
+  pub next : next_wish seat.turn.txn seat.turn.lines ≡ Some wish
+  pub number : wish.txn ≡ seat.turn.txn
+  pub fit : IsFit setting seat
+  pub registered : is_registered wish.txn registry ≡ seat.listed
+  pub among : IsAmongWishes seat wish (wishes_for seat.listed wish registry)
+  pub may_own : may_ask setting.plan.trees wish ≡ true
+  pub may : MayAsk setting.plan.trees registry
+  pub places : place_after setting pass.front + setting.plan.trees + 1 + length (wishes_for seat.listed wish registry) ≤ places_end
+
+-- It asked, was answered, and is what the answer made of it, as is the registry.
+pub record HasAsked (setting : Setting) (old new : PassView) (registry registry_now : List Wish) (was is : Seat) : Type 0 where
+  pub wish : Wish
+  pub next : next_wish was.turn.txn was.turn.lines ≡ Some wish
+  pub left : List Wish
+  pub answer : Result Started Fault
+  pub started : IsStarted setting (bar_of setting was.turn) wish (others_for was.listed wish registry) (wishes_for was.listed wish registry)
+      registry old new left answer
+  pub has : IsAnswered answer
+  pub registry_is : registry_now ≡ registry_so wish.txn left answer
+  pub seat_is : is ≡ seat_so was.turn answer
+
+-- what an answer made of a transaction and the registry
+pub record IsTaken (registry registry_now : List Wish) (was is : Seat) (answer : Result Started Fault) : Type 0 where
+  pub has : IsAnswered answer
+  pub registry_is : registry_now ≡ registry_so was.turn.txn registry answer
+  pub seat_is : is ≡ seat_so was.turn answer
+
+-- The caller's moves leave a crew of these transactions as it may be between two of them, with the same registry.
+abbrev pub StaysCrew : Setting → List Event → List Event → List Seat → List Seat → Type 0
+StaysCrew setting before history were are =
+    (lines : List Line) (registry : List Wish) → AreFitDeeds setting lines → IsCrew setting lines before registry were
+    → IsCrew setting lines history registry are
+
+-- such a crew, of some trace
+pub record IsSomeCrew (setting : Setting) (history : List Event) (seats : List Seat) : Type 0 where
+  pub lines : List Line
+  pub registry : List Wish
+  pub deeds : AreFitDeeds setting lines
+  pub crew : IsCrew setting lines history registry seats
+
+-- The same where a transaction asked, and the registry may be another.
+pub record IsCrewOf (setting : Setting) (history : List Event) (registry : List Wish) (seats : List Seat) : Type 0 where
+  pub lines : List Line
+  pub deeds : AreFitDeeds setting lines
+  pub crew : IsCrew setting lines history registry seats
+
+abbrev pub AsksStay : Setting → List Event → List Event → List Wish → List Wish → List Seat → List Seat → Type 0
+AsksStay setting before history registry registry_now were are =
+    (lines : List Line) → AreFitDeeds setting lines → IsCrew setting lines before registry were → IsCrew setting lines history registry_now are

@@ -1,6 +1,7 @@
 //! Transactions that workers play side by side.
 #![tactic(auto)]
 
+mod caller;
 mod crew;
 mod gate;
 pub mod laws;

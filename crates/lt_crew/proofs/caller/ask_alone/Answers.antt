@@ -1,0 +1,14 @@
+use Rattle.lt_crew.proofs.AskingLaws.{answered_at, has_answer}
+use Rattle.lt_crew.proofs.caller.ask_alone.Goals as goal
+
+pub take_answer-requires-clause-has : goal.take_answer-requires-clause-has
+take_answer-requires-clause-has g c =
+    let setting = g.Y.Yard.setting c.args.yard.now in
+    let view = g.Y.Pass.Pass.view in
+    let old = view c.args.pass.now in
+    let new = view c.start_or_retry-started.new.pass in
+    let left = c.start_or_retry-started.new.registry in
+    let answer = c.start_or_retry-started.result in
+    has_answer setting old new c.args.registry.now c.args.turn.now c.requires.may left answer c.requires.alone
+    (answered_at setting old new c.args.registry.now c.args.turn.now c.requires.may c.in-Some.wish c.is_big-big.result left answer
+    c.in-Some.ensures c.is_big-big.ensures c.start_or_retry-started.ensures.answer)
