@@ -29,7 +29,8 @@ AnswersAt setting seat wish registry old new left answer =
     IsStarted setting (bar_of setting seat.turn) wish (others_for seat.listed wish registry) (wishes_for seat.listed wish registry) registry
     old new left answer
 
-pub answered_at : (setting : Setting) (old new : PassView) (registry : List Wish) (seat : Seat) (may : MayAskNow setting old registry seat) (wish : Wish)
+pub answered_at : (setting : Setting) (old new : PassView) (registry : List Wish) (seat : Seat)
+    (may : MayAskNow setting old registry seat) (wish : Wish)
     (big : Bool) (left : List Wish) (answer : Result Started Fault) → Some wish ≡ next_wish seat.turn.txn seat.turn.lines → big ≡ seat.turn.big →
     AnswersFor setting big wish registry old new left answer → AnswersAt setting seat may.wish registry old new left answer
 answered_at setting old new registry seat may wish big left answer next same is =

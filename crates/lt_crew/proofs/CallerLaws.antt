@@ -1,5 +1,6 @@
 -- Moves of the caller, one transaction at a time.
-use Rattle.std.proofs.Common.{◌≡◌, ◌≢◌, ℕ, zero, suc, ◌<◌, List, [], ◌∷◌, ◌++◌, true, false, if◌then◌else◌, IsTrue, None, Result, Ok, Err, nat_cmp, Bool, is_some, ◌+◌, ◌≤◌, Some}
+use Rattle.std.proofs.Common.{◌≡◌, ◌≢◌, ℕ, zero, suc, ◌<◌, List, [], ◌∷◌, ◌++◌, true, false}
+use Rattle.std.proofs.Common.{if◌then◌else◌, IsTrue, None, Result, Ok, Err, nat_cmp, Bool, is_some, ◌+◌, ◌≤◌, Some}
 use Rattle.std.proofs.Common.{length, get_or, slice_set, refl, sym, ap, subst, ◌∙◌, arith}
 use Rattle.std.specs.List.{AllByRecursion, cons_option}
 use Rattle.std.specs.List.Sorted.{IsStrictlySortedBy}
