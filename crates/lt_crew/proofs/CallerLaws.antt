@@ -43,7 +43,7 @@ use Rattle.lt_crew.proofs.CrewRunLaws.{rounds_stand}
 
 -- Seats.
 
-all_at : (P : Seat → Type 0) (seats : List Seat) (i : ℕ) (d : Seat) → i < length seats → AllByRecursion P seats → P (get_or seats i d)
+pub all_at : (P : Seat → Type 0) (seats : List Seat) (i : ℕ) (d : Seat) → i < length seats → AllByRecursion P seats → P (get_or seats i d)
 all_at P [] i d inside all = absurd (omega arith)
 all_at P (s ∷ ss) zero d inside all = all.0
 all_at P (s ∷ ss) (suc i) d inside all = all_at P ss i d (omega arith) all.1

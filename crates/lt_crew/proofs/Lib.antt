@@ -11,3 +11,4 @@ pub mod ResultLaws
 pub mod StillLaws
 pub mod CallerLaws
 pub mod AskingLaws
+pub mod AskedLaws

@@ -1,5 +1,5 @@
 -- What a crew's caller has of the transactions between two of its moves, and what a move of its own makes of them.
-use Rattle.std.specs.Prelude.{◌≡◌, ◌≢◌, ◌⊎◌, ℕ, ◌+◌, ◌<◌, ◌≤◌, List, [], length, slice_index_or, slice_set, None, Some, true, false, Bool, Result}
+use Rattle.std.specs.Prelude.{◌≡◌, ◌≢◌, ◌⊎◌, ℕ, ◌+◌, ◌<◌, ◌≤◌, List, [], length, slice_index_or, slice_set, None, Some, true, false, Bool, Result, if◌then◌else◌}
 use Rattle.std.specs.List.{AllByRecursion}
 use Rattle.lt_seq.specs.declared.event.Event.{Event}
 use Rattle.lt_seq.specs.declared.fault.Fault.{Fault}
@@ -15,7 +15,8 @@ use Rattle.lt_runner.specs.Attempt.{bar_of}
 use Rattle.lt_runner.specs.Plays.{next_wish}
 use Rattle.lt_runner.specs.Played.{Search}
 use Rattle.lt_runner.specs.PlaysOn.{PlaysOn, IsFit}
-use Rattle.lt_runner.specs.Work.{steps}
+use Rattle.lt_runner.specs.Work.{work, steps}
+use Rattle.lt_runner.specs.StartsCost.{StartsCost}
 use Rattle.lt_runner.specs.StartsOn.{IsAmongWishes}
 use Rattle.lt_runner.specs.Standing.{AreFitDeeds}
 use Rattle.lt_runner.specs.Listed.{IsRegistryOf, wishes_for, others_for}
@@ -58,9 +59,9 @@ CallerAsks =
     → IsAnswered result → IsCrew setting lines old.front registry seats
     → IsCrew setting lines new.front (registry_so wish.txn left result) (slice_set seats index (seat_so seat.turn result))
 
--- a play by the caller came to an end, or is a step on
+-- a play by the caller is a step on, and no call was refused, or no step is left
 abbrev pub IsNearer : Seat → Seat → Type 0
-IsNearer was is = (steps is < steps was) ⊎ (steps is ≡ 0)
+IsNearer was is = ((is.busy ≡ false) × (steps is < steps was)) ⊎ (steps is ≡ 0)
 
 -- The caller may play it on: it does not wait, and there are places for what it may do.
 pub record MayPlay (setting : Setting) (pass : PassView) (seat : Seat) : Type 0 where
@@ -98,6 +99,40 @@ pub record IsTaken (registry registry_now : List Wish) (was is : Seat) (answer :
   pub has : IsAnswered answer
   pub registry_is : registry_now ≡ registry_so was.turn.txn registry answer
   pub seat_is : is ≡ seat_so was.turn answer
+
+-- The caller played the transaction at a place on: its events are paid for, and it came nearer to its end.
+pub record IsPlayedAt (setting : Setting) (old new : PassView) (place : ℕ) (were are : List Seat) : Type 0 where
+  pub was : Seat
+  pub is : Seat
+  pub at : (d : Seat) → slice_index_or were place d ≡ was
+  pub put : are ≡ slice_set were place is
+  pub events : length new.front + work setting is ≤ length old.front + work setting was
+  pub nearer : IsNearer was is
+
+-- its last call was refused, and it does not wait
+abbrev pub is_refused : Seat → Bool
+is_refused seat = if seat.turn.waits then false else seat.busy
+
+-- the transaction at a place, by whether its last call was refused: another is left as it was
+abbrev pub PlaysAt : Bool → Setting → PassView → PassView → ℕ → List Seat → List Seat → Type 0
+PlaysAt true setting old new place were are = IsPlayedAt setting old new place were are
+PlaysAt false setting old new place were are = (new ≡ old) × (are ≡ were)
+
+-- The transaction at a place asked, and was answered. Besides what is paid for that made the joins of all trees, an ask, and a
+-- question for each that is registered, at most.
+pub record IsAskedAt (setting : Setting) (old new : PassView) (registry registry_now : List Wish) (place : ℕ) (were are : List Seat) : Type 0 where
+  pub was : Seat
+  pub is : Seat
+  pub at : (d : Seat) → slice_index_or were place d ≡ was
+  pub put : are ≡ slice_set were place is
+  pub asked : HasAsked setting old new registry registry_now was is
+  pub cost : StartsCost setting (length (wishes_for was.listed asked.wish registry)) old new was asked.answer
+  pub events : length new.front + work setting is ≤ length old.front + work setting was + (setting.plan.trees + 1 + length were)
+
+-- the transaction at a place, by whether it waits: another is left as it was
+abbrev pub AsksAt : Bool → Setting → PassView → PassView → List Wish → List Wish → ℕ → List Seat → List Seat → Type 0
+AsksAt true setting old new registry registry_now place were are = IsAskedAt setting old new registry registry_now place were are
+AsksAt false setting old new registry registry_now place were are = (new ≡ old) × (registry_now ≡ registry) × (are ≡ were)
 
 -- The caller's moves leave a crew of these transactions as it may be between two of them, with the same registry.
 abbrev pub StaysCrew : Setting → List Event → List Event → List Seat → List Seat → Type 0

@@ -11,6 +11,7 @@ ghost use Rattle.lt_runner.specs.Work.{Spends};
 ghost use Rattle.lt_runner.specs.Listed.{wishes_for, others_for};
 ghost use Rattle.lt_runner.specs.StartsOn.{IsAmongWishes};
 ghost use Rattle.lt_crew.specs.Caller.{IsAlone, IsNearer, IsSomeCrew, MayPlay, MayAskNow, HasAsked, IsTaken, StaysCrew, IsCrewOf, AsksStay};
+ghost use Rattle.lt_crew.specs.Caller.{PlaysAt, AsksAt, is_refused};
 
 use lt_history::Outcome;
 use lt_requests::{Registry, Started, Wish};
@@ -142,6 +143,8 @@ pub(crate) fn play_busy<Y: Yard>(
     ensures alone { IsAlone (Y.setting yard.now) (Y.Pass.view pass.new) }
     ensures crew { OnOk result (StaysCrew (Y.setting yard.now) (Y.Pass.view pass.old).front (Y.Pass.view pass.new).front
         turns.old turns.new) }
+    ensures played { OnOk result ((d : Seat) → PlaysAt (is_refused (slice_index_or turns.old place d)) (Y.setting yard.now)
+        (Y.Pass.view pass.old) (Y.Pass.view pass.new) place turns.old turns.new) }
 {
     let turn = &mut turns[place];
     if !turn.is_busy() || turn.is_waiting() {
@@ -170,6 +173,8 @@ pub(crate) fn ask_waiting<Y: Yard>(
     ensures alone { IsAlone (Y.setting yard.now) (Y.Pass.view pass.new) }
     ensures crew { OnOk result (AsksStay (Y.setting yard.now) (Y.Pass.view pass.old).front (Y.Pass.view pass.new).front
         registry.old registry.new turns.old turns.new) }
+    ensures asked { OnOk result ((d : Seat) → AsksAt (slice_index_or turns.old place d).turn.waits (Y.setting yard.now)
+        (Y.Pass.view pass.old) (Y.Pass.view pass.new) registry.old registry.new place turns.old turns.new) }
 {
     let turn = &mut turns[place];
     if !turn.is_waiting() {
