@@ -1,5 +1,6 @@
 -- What an ask of the caller's costs.
-use Rattle.std.proofs.Common.{◌≡◌, ℕ, ◌+◌, ◌<◌, ◌≤◌, List, Bool, true, Result, Ok, Err, ap, refl, sym, subst, ◌∙◌, arith, length, length-append, [], ◌∷◌}
+use Rattle.std.proofs.Common.{◌≡◌, ℕ, ◌+◌, ◌<◌, ◌≤◌, List, Bool, true, Result, Ok}
+use Rattle.std.proofs.Common.{Err, ap, refl, sym, subst, ◌∙◌, arith, length, length-append, [], ◌∷◌}
 use Rattle.std.proofs.Common.{get_or, slice_set}
 use Rattle.std.proofs.lemmas.List.{length-map, get_or_default}
 use Rattle.lt_seq.specs.declared.event.Receipt.{Receipt}

@@ -12,3 +12,5 @@ pub mod StillLaws
 pub mod CallerLaws
 pub mod AskingLaws
 pub mod AskedLaws
+pub mod CallersTurnLaws
+pub mod TurnedLaws

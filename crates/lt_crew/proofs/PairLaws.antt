@@ -24,6 +24,16 @@ module _ {X : Type 0} where
       go k d (inl e) p q same = rw (e, get_or-set_same cur i x d h, same d) r
       go k d (inr ne) p q same = rw (get_or-set_other cur i k x d ne) (u.below k d (omega arith) q)
 
+  -- one that is left as it is
+  pub up_to_left : (R : X → X → Type 0) (i : ℕ) (old cur : List X) → UpTo R i old cur →
+      ((d : X) → i < length old → R (get_or old i d) (get_or cur i d)) → UpTo R (i + 1) old cur
+  up_to_left R i old cur u r =
+      record { len = u.len; below = λ k d p q. go k d p q (cases_eq k i); rest = λ k d p. u.rest k d (omega arith) }
+    where
+      go : (k : ℕ) (d : X) → k < i + 1 → k < length old → (k ≡ i) ⊎ (k ≢ i) → R (get_or old k d) (get_or cur k d)
+      go k d p q (inl e) = rw e (r d (omega (arith, e, q)))
+      go k d p q (inr ne) = u.below k d (omega arith) q
+
   pub up_to_all : (R : X → X → Type 0) (n : ℕ) (old new : List X) → UpTo R n old new → length old ≤ n → EachPair R old new
   up_to_all R n old new u h = (u.len, λ k d p. u.below k d (omega arith) p)
 

@@ -2,3 +2,4 @@ pub mod Crew
 pub mod Workers
 pub mod Rounds
 pub mod Caller
+pub mod CallersTurn

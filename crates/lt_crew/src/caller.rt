@@ -12,6 +12,9 @@ ghost use Rattle.lt_runner.specs.Listed.{wishes_for, others_for};
 ghost use Rattle.lt_runner.specs.StartsOn.{IsAmongWishes};
 ghost use Rattle.lt_crew.specs.Caller.{IsAlone, IsNearer, IsSomeCrew, MayPlay, MayAskNow, HasAsked, IsTaken, StaysCrew, IsCrewOf, AsksStay};
 ghost use Rattle.lt_crew.specs.Caller.{PlaysAt, AsksAt, is_refused};
+ghost use Rattle.lt_crew.specs.CallersTurn.{ArePaid, HasPlaces, IsPlayedOn, IsAnsweredNow, IsTurned};
+ghost use Rattle.lt_crew.specs.Workers.{EachPair};
+ghost use Rattle.lt_runner.specs.CrewCost.{pass_cost};
 
 use lt_history::Outcome;
 use lt_requests::{Registry, Started, Wish};
@@ -181,4 +184,78 @@ pub(crate) fn ask_waiting<Y: Yard>(
         return Ok(());
     }
     ask_alone(alloc, registry, yard, pass, turn)
+}
+
+/// Plays each on whose last call was refused, in their order. The only error is want of memory.
+fn play_refused<Y: Yard>(yard: &Y, pass: &mut Y::Pass, turns: &mut [Turn]) -> Result<(), AllocError>
+    requires of { Y.Pass.origin pass.old ≡ origin_of (Y.identity yard.now) (Y.setting yard.now) }
+    requires alone { IsAlone (Y.setting yard.now) (Y.Pass.view pass.old) }
+    requires crew { IsSomeCrew (Y.setting yard.now) (Y.Pass.view pass.old).front turns.old }
+    requires places { HasPlaces (Y.setting yard.now) (Y.Pass.view pass.old) turns.old 0 }
+    ensures of { Y.Pass.origin pass.new ≡ origin_of (Y.identity yard.now) (Y.setting yard.now) }
+    ensures alone { IsAlone (Y.setting yard.now) (Y.Pass.view pass.new) }
+    ensures crew { OnOk result (StaysCrew (Y.setting yard.now) (Y.Pass.view pass.old).front (Y.Pass.view pass.new).front
+        turns.old turns.new) }
+    ensures played { OnOk result (EachPair IsPlayedOn turns.old turns.new) }
+    ensures paid { OnOk result (ArePaid (Y.setting yard.now) (Y.Pass.view pass.old) (Y.Pass.view pass.new) turns.old turns.new 0) }
+{
+    for place in 0..turns.len() {
+        play_busy(yard, pass, turns, place)?;
+    }
+    Ok(())
+}
+
+/// Each that waits asks, in their order, once more where it is registered. The only error is want of memory.
+fn ask_for_waiting<Y: Yard>(
+    alloc: Global,
+    registry: &mut Registry,
+    yard: &Y,
+    pass: &mut Y::Pass,
+    turns: &mut [Turn],
+) -> Result<(), AllocError>
+    requires of { Y.Pass.origin pass.old ≡ origin_of (Y.identity yard.now) (Y.setting yard.now) }
+    requires alone { IsAlone (Y.setting yard.now) (Y.Pass.view pass.old) }
+    requires crew { IsCrewOf (Y.setting yard.now) (Y.Pass.view pass.old).front registry.old turns.old }
+    requires places { HasPlaces (Y.setting yard.now) (Y.Pass.view pass.old) turns.old
+        (pass_cost (Y.setting yard.now).plan.trees (length turns.old)) }
+    ensures of { Y.Pass.origin pass.new ≡ origin_of (Y.identity yard.now) (Y.setting yard.now) }
+    ensures alone { IsAlone (Y.setting yard.now) (Y.Pass.view pass.new) }
+    ensures crew { OnOk result (AsksStay (Y.setting yard.now) (Y.Pass.view pass.old).front (Y.Pass.view pass.new).front
+        registry.old registry.new turns.old turns.new) }
+    ensures asked { OnOk result (EachPair IsAnsweredNow turns.old turns.new) }
+    ensures paid { OnOk result (ArePaid (Y.setting yard.now) (Y.Pass.view pass.old) (Y.Pass.view pass.new) turns.old turns.new
+        (pass_cost (Y.setting yard.now).plan.trees (length turns.old))) }
+{
+    for place in 0..turns.len() {
+        ask_waiting(alloc, registry, yard, pass, turns, place)?;
+    }
+    Ok(())
+}
+
+/// The caller's turn between two rounds: first each transaction whose last call was refused is played on, then each that
+/// waits asks, both in the order of their numbers.
+///
+/// The only error is want of memory. Then the events that were made stand, and no transaction is played any more.
+pub fn callers_turn<Y: Yard>(
+    alloc: Global,
+    registry: &mut Registry,
+    yard: &Y,
+    pass: &mut Y::Pass,
+    turns: &mut [Turn],
+) -> Result<(), AllocError>
+    requires of { Y.Pass.origin pass.old ≡ origin_of (Y.identity yard.now) (Y.setting yard.now) }
+    requires alone { IsAlone (Y.setting yard.now) (Y.Pass.view pass.old) }
+    requires crew { IsCrewOf (Y.setting yard.now) (Y.Pass.view pass.old).front registry.old turns.old }
+    requires places { HasPlaces (Y.setting yard.now) (Y.Pass.view pass.old) turns.old
+        (pass_cost (Y.setting yard.now).plan.trees (length turns.old)) }
+    ensures of { Y.Pass.origin pass.new ≡ origin_of (Y.identity yard.now) (Y.setting yard.now) }
+    ensures alone { IsAlone (Y.setting yard.now) (Y.Pass.view pass.new) }
+    ensures crew { OnOk result (AsksStay (Y.setting yard.now) (Y.Pass.view pass.old).front (Y.Pass.view pass.new).front
+        registry.old registry.new turns.old turns.new) }
+    ensures turned { OnOk result (EachPair IsTurned turns.old turns.new) }
+    ensures paid { OnOk result (ArePaid (Y.setting yard.now) (Y.Pass.view pass.old) (Y.Pass.view pass.new) turns.old turns.new
+        (pass_cost (Y.setting yard.now).plan.trees (length turns.old))) }
+{
+    play_refused(yard, pass, turns)?;
+    ask_for_waiting(alloc, registry, yard, pass, turns)
 }

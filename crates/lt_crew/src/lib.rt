@@ -8,6 +8,7 @@ pub mod laws;
 mod play;
 mod worker;
 
+pub use caller::callers_turn;
 pub use crew::round;
 pub use gate::{Gate, OpenGate};
 pub use worker::Worker;

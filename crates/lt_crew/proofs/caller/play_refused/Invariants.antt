@@ -1,0 +1,18 @@
+use Rattle.std.proofs.Common.{◌≡◌}
+use Rattle.lt_seq.specs.Yard.{origin_of}
+use Rattle.lt_crew.specs.Caller.{IsAlone, StaysCrew}
+use Rattle.lt_crew.specs.CallersTurn.{ArePaid, IsPlayedOn}
+use Rattle.lt_crew.specs.Workers.{UpTo}
+use Rattle.lt_crew.proofs.caller.play_refused.Given as goal
+
+abbrev pub invariant-loop-place : goal.invariant-loop-place
+invariant-loop-place g l =
+    let view = g.Y.Pass.Pass.view in
+    let setting = g.Y.Yard.setting l.yard in
+    record {
+      of : g.Y.Pass.Pass.origin l.pass ≡ origin_of (g.Y.Yard.identity l.yard) setting;
+      alone : IsAlone setting (view l.pass);
+      crew : StaysCrew setting (view l.fn.pass).front (view l.pass).front l.fn.turns l.turns;
+      played : UpTo IsPlayedOn l.place l.fn.turns l.turns;
+      paid : ArePaid setting (view l.fn.pass) (view l.pass) l.fn.turns l.turns 0;
+    }
