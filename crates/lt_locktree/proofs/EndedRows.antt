@@ -11,7 +11,7 @@ use Rattle.lt_forest.specs.Forest.{folded}
 use Rattle.lt_forest.specs.Parts.{numbers}
 use Rattle.lt_forest.proofs.PairLists.{map_app}
 use Rattle.lt_locktree.specs.EndingRows.{stood_in, held_pair, AllPairsStand, HeldPairsAreRead, ChainIsEnough, FirstRowsTakeOver, VacantRowTakesOver}
-use Rattle.lt_locktree.proofs.FreePlans.{times_reversed}
+use Rattle.lt_locktree.proofs.MergedPlans.{times_reversed}
 use Rattle.lt_locktree.proofs.GrantedRuns.{length-numbers}
 
 pub all_pairs_stand : AllPairsStand

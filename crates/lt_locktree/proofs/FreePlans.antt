@@ -1,7 +1,6 @@
 -- The plan of a free meets what a commit asks.
 use Rattle.std.proofs.Common.{◌≡◌, inl, ℕ, ◌+◌, ◌<◌, ◌≤◌, Bool, true, false, not, List, [], ◌∷◌, ◌++◌, refl, sym, ap, ◌∙◌, subst, arith, if◌then◌else◌}
 use Rattle.std.specs.Prelude.{slice_index, reverse}
-use Rattle.std.proofs.lemmas.List.{reverse-append, length-reverse}
 use Rattle.std.specs.List.{filter}
 use Rattle.lt_ranges.specs.Interval.{Interval, IsInterval}
 use Rattle.lt_seq.specs.Table.{raised}
@@ -12,7 +11,6 @@ use Rattle.lt_forest.specs.Parts.{numbers}
 use Rattle.lt_forest.specs.Items.{LeavesOut}
 use Rattle.lt_forest.specs.Forest.{IsRun}
 use Rattle.lt_forest.specs.Views.{IsIn, PlansOnly, PoolPlan, from_pool}
-use Rattle.lt_forest.proofs.PairLists.{map_app}
 use Rattle.lt_forest.proofs.SameRows.{times-++}
 use Rattle.lt_rows.specs.declared.view.View.{View}
 use Rattle.lt_rows.specs.declared.image.RowImage.{RowImage}
@@ -26,12 +24,12 @@ use Rattle.lt_locktree.specs.LawsOfFrees.{goes, freed_rows, RaisesAnchor, AreNum
 use Rattle.lt_locktree.specs.LawsOfFreePlans.{RaisesImage, FreePlanCommits}
 use Rattle.lt_locktree.specs.PlannedParts.{InPlan, PlansRows, IsLoaded, ShowsRow}
 use Rattle.lt_locktree.specs.RelaidRows.{LaysRows}
-use Rattle.lt_locktree.proofs.GrantedRuns.{numbers_are, sub_held, length-numbers}
+use Rattle.lt_locktree.proofs.GrantedRuns.{numbers_are, sub_held}
 use Rattle.lt_locktree.proofs.PlannedRows.{in_left, in_right}
 use Rattle.lt_locktree.proofs.DrawnParts.{planned_app}
 use Rattle.lt_locktree.proofs.LaidParts.{loaded_at, plan_times, planned_image, other_planned, laid_rows, anchor_gets}
 use Rattle.lt_locktree.proofs.PlanLaws.{all_once}
-use Rattle.lt_locktree.proofs.MergedPlans.{one_of, chained_times, chained_run}
+use Rattle.lt_locktree.proofs.MergedPlans.{one_of, times_reversed, are_reversed, chained_times, chained_run}
 use Rattle.lt_locktree.proofs.FreedParts.{free_commits}
 
 -- each row stays or goes
@@ -46,18 +44,6 @@ parted txn range (r ∷ rows) q = by (goes txn range r) (parted txn range rows q
     by true e = omega arith
     by false e = omega arith
 
--- and the order is of no matter
-
-pub times_reversed : (rows : List PartRow) (q : ℕ) → times q (numbers (reverse rows)) ≡ times q (numbers rows)
-times_reversed [] q = refl
-times_reversed (r ∷ rows) q =
-    ap (λ (rs : List PartRow). times q (numbers rs)) (reverse-append (r ∷ []) rows)
-    ∙ (ap (times q) (map_app (λ (x : PartRow). x.row) (reverse rows) (r ∷ []))
-    ∙ (times-++ q (numbers (reverse rows)) (r.row ∷ [])
-    ∙ (let e = times_reversed rows q in omega arith)))
-
-are_reversed : (rows : List PartRow) → AreNumbersOf rows (numbers (reverse rows))
-are_reversed rows = record { each = times_reversed rows; all = length-numbers (reverse rows) ∙ length-reverse rows }
 
 module _ (v : View) (tree : ℕ) (asked : Interval) (here : ℕ) (rows : List PartRow) (hangs more : List ℕ)
     (l : IsLockedWith v tree asked here rows hangs more) (closed : IsClosed asked rows hangs) (lt : tree < v.plan.trees)

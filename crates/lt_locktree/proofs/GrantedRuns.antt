@@ -16,7 +16,7 @@ use Rattle.lt_forest.specs.Counts.{times, one_if}
 use Rattle.lt_forest.specs.Trees.{Nodes, in_order, pairs_in}
 use Rattle.lt_forest.specs.Cuts.{bare, AllAside}
 use Rattle.lt_forest.specs.Parts.{hangs_of, row_pair, numbers, hanging}
-use Rattle.lt_forest.specs.Plans.{from_anchor, IsClosedFor}
+use Rattle.lt_forest.specs.Plans.{from_anchor, IsClosedFor, SameRows}
 use Rattle.lt_forest.specs.Links.{left_of, right_of}
 use Rattle.lt_forest.specs.Views.{IsIn, AllHeld, PlansOnly, PoolPlan, no_pool, from_pool}
 use Rattle.lt_forest.proofs.SameRows.{times-++}
@@ -109,7 +109,8 @@ counted change n a b k gone e =
     ∙ (ap (λ (z : ℤ). z +ℤ pos (b + k)) gone ∙ ap (λ (m : ℕ). pos m) (let z : 0 + (b + k) ≡ b + k = omega arith in z)))
 
 pub merged_ask_commits : MergedAskCommits
-merged_ask_commits v tree asked here ahead r run behind hangs more plan e change l closed lt interval between own laid pool only pass is counts =
+merged_ask_commits v tree asked here ahead r run behind hangs more given plan e change l closed lt interval between own laid numbered pool only pass is
+    counts =
     let rows : List PartRow = ahead ++ (r ∷ run ++ behind) in
     let c : Nodes = shown v [] in
     let one : PartRow = merged_row e.txn asked r run in
@@ -133,11 +134,16 @@ merged_ask_commits v tree asked here ahead r run behind hangs more plan e change
     between.0 between.1 refl in
     let loose = merged_run_loosens c (shown_after v plan) from_anchor l.sub laid.new asked ahead r run behind one la lb closed_l may l.rows_are
     none.hangs_are none.place laid.rows_are new_hangs in
-    let same = merged_run_keeps_rows c (shown_after v plan) l.sub laid.new ahead r run behind one l.rows_are laid.rows_are refl in
+    let kept = merged_run_keeps_rows c (shown_after v plan) l.sub laid.new ahead r run behind one l.rows_are laid.rows_are refl in
+    let same : SameRows l.sub laid.new [] given =
+    record {
+      each = λ q. (let s = kept.each q in let n = numbered.each q in omega arith);
+      all = (let s = kept.all in let n = length-numbers run in let m = numbered.all in omega arith);
+    } in
     let grants = merged_run_is_granted e.txn asked ahead (r ∷ run) behind one interval all_lawful between.0 between.1 own refl refl in
     let mine : map row_pair rows ≡ pairs_in c (bare l.sub) = sub_pairs v tree asked here rows hangs more l lt in
-    grant_commits v tree asked here rows hangs more l closed lt interval plan laid.new [] (numbers run) e.txn laid.shows laid.beside
-    (λ q some. sub_held v tree asked here rows hangs more l closed lt q (let s = same.each q in omega arith))
+    grant_commits v tree asked here rows hangs more l closed lt interval plan laid.new [] given e.txn laid.shows laid.beside
+    (λ q some. sub_held v tree asked here rows hangs more l closed lt q (let s = kept.each q in omega arith))
     loose same pool
     (subst (λ (ns : List ℕ). PlansOnly (here ∷ v.plan.trees ∷ ns) (planned_rows plan))
     (sym (append-nil (in_order (bare l.sub)) ∙ numbers_are v tree asked here rows hangs more l closed lt)) only)
@@ -148,7 +154,7 @@ merged_ask_commits v tree asked here ahead r run behind hangs more plan e change
     (subst (λ (ps : List Pair). 0 < length ps) mine (some_middle ahead r (run ++ behind))))
     e change pass refl is
     (λ k. counted change (length run) (length (in_order (bare l.sub))) (length (in_order (bare laid.new))) k counts
-    (let s = same.all in let n = length-numbers run in omega arith))
+    (let s = kept.all in let n = length-numbers run in omega arith))
     (λ some. absurd (omega arith))
 
 vacant_held : (v : View) (plan : List RowImage) (vacant : ℕ)

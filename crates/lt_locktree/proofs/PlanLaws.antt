@@ -108,9 +108,10 @@ grown_plan_commits v tree asked here ahead r behind hangs more stays plan e l cl
     let laid = laid_part v tree asked here rows hangs more l lt interval stays loaded [] plan new_rows hangs plans once in
     let counts = plan_times v tree asked here rows hangs more l lt interval stays
     (seen_loaded v tree asked here rows hangs more l lt interval stays loaded) [] plan new_rows hangs plans once in
-    merged_ask_commits v tree asked here ahead r [] behind hangs more plan e (pos 0) l closed lt interval between
+    merged_ask_commits v tree asked here ahead r [] behind hangs more [] plan e (pos 0) l closed lt interval between
     (λ p h. elim h [ inl x ↦ ap (is_own e.txn asked) x ∙ own | inr z ↦ absurd z ])
     (subst (λ (hs : List ℕ). LaysPart v plan l.place here new_rows hs) (sym hangs_is) laid)
+    (record { each = λ q. refl; all = refl })
     (no_pool refl refl
     (let a = counts v.plan.trees in let b = rows_apart v tree asked here rows hangs more l closed lt in
     let d = here_apart v tree asked here rows hangs more l closed lt in let s = ap (times v.plan.trees) same in omega arith))

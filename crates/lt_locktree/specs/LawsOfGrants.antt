@@ -20,6 +20,7 @@ use Rattle.lt_rows.specs.Nodes.{mode_of}
 use Rattle.lt_rows.specs.Views.{has, images, planned_rows}
 use Rattle.lt_rows.specs.Lawful.{shown, shown_after, IsCommit}
 use Rattle.lt_tree.specs.Gathers.{IsLockedWith, IsClosed}
+use Rattle.lt_locktree.specs.LawsOfFrees.{AreNumbersOf}
 use Rattle.lt_locktree.specs.Relaid.{LaysPart}
 
 -- The range has its place behind these rows and before those.
@@ -44,13 +45,13 @@ new_row txn range vacant = record { row = vacant; owner = txn; range = range }
 abbrev pub MergedAskCommits : Type 0
 MergedAskCommits =
     (v : View) (tree : ℕ) (asked : Interval) (here : ℕ) (ahead : List PartRow) (r : PartRow) (run behind : List PartRow)
-    (hangs more : List ℕ) (plan : List RowImage) (e : Event) (change : ℤ)
+    (hangs more given : List ℕ) (plan : List RowImage) (e : Event) (change : ℤ)
     (l : IsLockedWith v tree asked here (ahead ++ (r ∷ run ++ behind)) hangs more)
     → IsClosed asked (ahead ++ (r ∷ run ++ behind)) hangs → tree < v.plan.trees → IsInterval asked
     → StandsBetween asked ahead behind → ((p : Pair) → Has p (map row_pair (r ∷ run)) → is_own e.txn asked p ≡ true)
     → LaysPart v plan l.place here (ahead ++ merged_row e.txn asked r run ∷ behind)
     (take (length ahead + 1) hangs ++ drop (length ahead + 1 + length run) hangs)
-    → PoolPlan (IsIn (has v)) (planned_rows plan) v.plan.trees (shown v plan) (shown_after v plan) [] (numbers run)
+    → AreNumbersOf run given → PoolPlan (IsIn (has v)) (planned_rows plan) v.plan.trees (shown v plan) (shown_after v plan) [] given
     → PlansOnly (here ∷ v.plan.trees ∷ numbers (ahead ++ (r ∷ run ++ behind))) (planned_rows plan)
     → e.pass + 1 ≡ v.mark → e.deed ≡ Ask tree asked Granted → change +ℤ pos (length run) ≡ pos 0
     → IsCommit v.plan v e plan change

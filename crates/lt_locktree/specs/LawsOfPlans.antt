@@ -1,5 +1,5 @@
 -- The plans of granted asks, as they are made, from what a search holds.
-use Rattle.std.specs.Prelude.{◌≡◌, ℕ, ℤ, pos, ◌+ℤ◌, ◌+◌, ◌<◌, List, [], ◌∷◌, ◌++◌, map, length, take, drop, true, slice_index, slice_set}
+use Rattle.std.specs.Prelude.{◌≡◌, ℕ, ℤ, pos, ◌+ℤ◌, ◌+◌, ◌<◌, List, [], ◌∷◌, ◌++◌, map, length, take, drop, true, reverse, slice_index, slice_set}
 use Rattle.lt_ranges.specs.Interval.{Interval, IsInterval}
 use Rattle.lt_seq.specs.declared.event.Event.{Event}
 use Rattle.lt_seq.specs.declared.event.Deed.TheVariants.{Ask}
@@ -58,8 +58,8 @@ MergedPlanCommits =
     → IsClosed asked (ahead ++ (r ∷ run ++ behind)) hangs → tree < v.plan.trees → IsInterval asked
     → StandsBetween asked ahead behind → ((p : Pair) → Has p (map row_pair (r ∷ run)) → is_own e.txn asked p ≡ true)
     → 0 < times v.plan.trees more → IsLoaded v here stays → IsLoaded v v.plan.trees pool
-    → IsChained given link run (slice_index pool.words 17)
-    → PlansRows tree asked stays (given_to pool link ∷ given) plan (ahead ++ merged_row e.txn asked r run ∷ behind)
+    → IsChained given link (reverse run) (slice_index pool.words 17)
+    → PlansRows tree asked stays (given ++ given_to pool link ∷ []) plan (ahead ++ merged_row e.txn asked r run ∷ behind)
     (take (length ahead + 1) hangs ++ drop (length ahead + 1 + length run) hangs)
     → e.pass + 1 ≡ v.mark → e.deed ≡ Ask tree asked Granted → change +ℤ pos (length run) ≡ pos 0
     → IsCommit v.plan v e plan change
