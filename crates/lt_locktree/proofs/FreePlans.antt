@@ -44,7 +44,6 @@ parted txn range (r ∷ rows) q = by (goes txn range r) (parted txn range rows q
     by true e = omega arith
     by false e = omega arith
 
-
 module _ (v : View) (tree : ℕ) (asked : Interval) (here : ℕ) (rows : List PartRow) (hangs more : List ℕ)
     (l : IsLockedWith v tree asked here rows hangs more) (closed : IsClosed asked rows hangs) (lt : tree < v.plan.trees)
     (interval : IsInterval asked) (pool : RowImage) (pool_in : 0 < times v.plan.trees more) (pool_loaded : IsLoaded v v.plan.trees pool)
