@@ -1,8 +1,9 @@
 //! Runs between ends that never fail.
-ghost use Rattle.std.specs.Prelude.{◌≡◌, ◌⊎◌, ℕ, List, map, string_bytes};
+ghost use Rattle.std.specs.Prelude.{◌≡◌, ◌⊎◌, ◌↔◌, Some, None, map, string_bytes};
 ghost use Rattle.lt_trace.specs.Trace.{TraceView};
 ghost use Rattle.lt_trace.specs.Grammar.{Spells};
-ghost use Rattle.lt_program.specs.Words.{IsCommand, AreMakers};
+ghost use Rattle.lt_program.specs.Statuses.{Works};
+ghost use Rattle.lt_program.specs.Words.{IsCommand, IsNoCommand, AreMakers};
 ghost use Rattle.lt_program.specs.declared.words.Command.TheVariants.{Serial};
 
 use crate::running::run;
@@ -19,7 +20,11 @@ pub fn run_unfailing<T: Tells>(
     sink: &mut NoFailSink,
     watch: &mut T,
 ) -> u8
-    ensures plays { (trace : TraceView) → IsCommand (map string_bytes words.now) Serial → Spells source.old trace → (result ≡ 0) ⊎ (result ≡ 6) }
+    ensures usage { (result ≡ 2) ↔ IsNoCommand (map string_bytes words.now) }
+    ensures done { result ≡ 0 → Works (map string_bytes words.now) (Some source.old) (Some source.new) None None
+        (T.logs watch.old) (T.logs watch.new) }
+    ensures plays { (trace : TraceView) → IsCommand (map string_bytes words.now) Serial → Spells source.old trace
+        → (result ≡ 0) ⊎ (result ≡ 6) }
     ensures makes { AreMakers (map string_bytes words.now) → (result ≡ 0) ⊎ (result ≡ 6) }
 {
     run(alloc, words, source, sink, watch)
