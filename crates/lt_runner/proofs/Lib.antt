@@ -70,5 +70,7 @@ pub mod SpendLaws
 pub mod StartsCostLaws
 pub mod RetriesLaws
 pub mod StandingLaws
+pub mod HeldLineLaws
 pub mod HoldLaws
+pub mod WaitingOwnLaws
 pub mod CrewCostLaws

@@ -1,5 +1,6 @@
 -- Plays: how a transaction may go from its first line to the end of its release, in a history.
-use Rattle.std.specs.Prelude.{◌≡◌, ℕ, ◌+◌, ◌≤◌, List, [], ◌∷◌, ◌++◌, map, filter, fold, Option, Some, None, Bool, true, false, ◌&&◌, ◌==◌, not, if◌then◌else◌, replicate, ◌||◌, IsTrue}
+use Rattle.std.specs.Prelude.{◌≡◌, ℕ, ◌+◌, ◌≤◌, List, [], ◌∷◌, ◌++◌, map, filter, fold, Option}
+use Rattle.std.specs.Prelude.{Some, None, Bool, true, false, ◌&&◌, ◌==◌, not, if◌then◌else◌, replicate, ◌||◌, IsTrue}
 use Rattle.lt_ranges.specs.Numbers.{ascending}
 use Rattle.lt_trace.specs.Grammar.{is_last}
 use Rattle.std.specs.List.{flat_map, list_any, find}

@@ -1,4 +1,4 @@
-use Rattle.lt_runner.proofs.HoldLaws.{waiting_own_all}
+use Rattle.lt_runner.proofs.WaitingOwnLaws.{waiting_own_all}
 use Rattle.lt_runner.proofs.laws.waiting_own_all.Goals as goal
 
 pub returns : goal.returns
