@@ -14,3 +14,4 @@ pub mod AskingLaws
 pub mod AskedLaws
 pub mod CallersTurnLaws
 pub mod TurnedLaws
+pub mod RoundsCrewLaws

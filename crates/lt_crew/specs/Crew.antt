@@ -11,7 +11,7 @@ use Rattle.lt_seq.specs.Yard.{PassView, Goes}
 use Rattle.lt_runner.specs.TurnView.{Seat}
 use Rattle.lt_runner.specs.Played.{Search}
 use Rattle.lt_runner.specs.PlaysOn.{Brings}
-use Rattle.lt_runner.specs.Work.{work}
+use Rattle.lt_runner.specs.Work.{work, steps}
 
 -- the receipts of one transaction among these
 abbrev pub own_in : ℕ → List Receipt → List Receipt
@@ -44,9 +44,12 @@ pub record IsOn (was is : Seat) : Type 0 where
   pub by : IsStuck is ⊎ ((length is.turn.lines < length was.turn.lines)
       ⊎ (IsTrue (is_some was.turn.outcome) × (is.turn ≡ record was.turn { releases = [] })))
 
--- A worker played it as far as it can: no line came to it, and one that was stuck is left as it was.
+-- A worker played it as far as it can: no line came to it, it took no step back, and one that was stuck is left as it was. Workers
+-- register none.
 pub record IsPlayedOut (was is : Seat) : Type 0 where
   pub lines : length is.turn.lines ≤ length was.turn.lines
+  pub steps : steps is ≤ steps was
+  pub listed : was.listed ≡ false → is.listed ≡ false
   pub stuck : IsStuck was → is ≡ was
   pub still : IsStill is
 

@@ -3,3 +3,4 @@ pub mod Workers
 pub mod Rounds
 pub mod Caller
 pub mod CallersTurn
+pub mod RoundsCrew

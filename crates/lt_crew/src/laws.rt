@@ -1,6 +1,7 @@
 //! Laws of crews.
 ghost use Rattle.lt_crew.specs.Caller.{CallerAsks, CallerPlaysOn};
 ghost use Rattle.lt_crew.specs.Rounds.{CallerMovesOne, CallersTurn, DealtAreMoved, RoundsAreARun, RoundsStand};
+ghost use Rattle.lt_crew.specs.RoundsCrew.{RoundsStayCrew};
 
 /// Behind rounds each transaction of the trace has come as far as its own events of the one legal history tell, and no
 /// other has an event.
@@ -41,4 +42,10 @@ pub fn caller_plays_on()
 #[tactic(auto, using(crate::proofs::CallerLaws::caller_asks))]
 pub fn caller_asks()
     ensures { CallerAsks }
+{}
+
+/// So does a round whose passes played what they were dealt as far as workers can, with the same registry.
+#[tactic(auto, using(crate::proofs::RoundsCrewLaws::rounds_stay_crew))]
+pub fn rounds_stay_crew()
+    ensures { RoundsStayCrew }
 {}
