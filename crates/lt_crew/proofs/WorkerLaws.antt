@@ -15,6 +15,7 @@ use Rattle.lt_runner.specs.PlaysOn.{IsFit}
 use Rattle.lt_crew.specs.declared.worker.Worker.{Worker}
 use Rattle.lt_crew.specs.Crew.{PlaysAll, SpendsAll, work_all, work_of, IsPlayedOut, Worked, IsRound, AreDistinct, numbers_in}
 use Rattle.lt_crew.specs.Workers.{UpTo, EachPair, AreOut, AllBelow, IsTold, IsLent, IsTaken, IsResting, HasWorked, AreInOrder, IsSeenBy, HasTaken, HasPlayed, seats_by}
+use Rattle.lt_crew.specs.RoundsCrew.{ArePlayedOut}
 use Rattle.lt_crew.proofs.RoundLaws.{worked_by, worked_none}
 use Rattle.lt_crew.proofs.SumLaws.{spent_by}
 use Rattle.lt_crew.proofs.PairLaws.{below_set, below_weaker}
@@ -246,6 +247,28 @@ module _ {P : Type 0} (origin : P → Origin) (view : P → PassView) (place : O
       λ k d h. subst (λ (s : Vec Seat). EachPair IsPlayedOut s.items (get_or new k d).turns.items) (lends.1 k d h).turns
           (plays.1 k d (there k h)).out,
     )
+
+    out_of : (pass : ℕ) → pass < length old + 1 → EachPair IsPlayedOut (seats_by old pass) (seats_by new pass)
+    out_of zero inside = (refl, λ i d h. absurd (omega arith))
+    out_of (suc k) inside =
+        let h : k < length old = omega (arith, inside) in
+        let d = element old k h in
+        subst (λ (ss : List Seat). EachPair IsPlayedOut ss (seats_by new (suc k))) (sym (seats_at old k d h))
+        (subst (EachPair IsPlayedOut (get_or old k d).turns.items) (sym (seats_at new k d (there_too k h))) (all_out.1 k d h))
+
+    fit_of : (pass : ℕ) → pass < length old + 1 → All (IsFit place.setting) (seats_by new pass)
+    fit_of zero inside = λ i d h. absurd (omega arith)
+    fit_of (suc k) inside =
+        let h : k < length old = omega (arith, inside) in
+        let d = element old k h in
+        subst (All (IsFit place.setting)) (sym (seats_at new k d (there_too k h))) (plays.1 k d (there k h)).fit
+
+    -- the same by the passes' numbers
+    pub passes_out : place.setting.plan.passes ≡ length old + 1 → ArePlayedOut place.setting (seats_by old) (seats_by new)
+    passes_out count = record {
+      out = λ pass inside. out_of pass (omega (arith, inside, count));
+      fit = λ pass inside. fit_of pass (omega (arith, inside, count));
+    }
 
     -- what one pass made
     spent_at : (me now : PassView) → now.mine ≡ me.mine → me.number ≡ 0 → now.number ≡ me.number → me.front ≡ before → now.front ≡ history →

@@ -5,6 +5,7 @@ ghost use Rattle.lt_seq.specs.History.{IsFront};
 ghost use Rattle.lt_crew.specs.Workers.{IsManned, HasWorked, IsResting, IsLent, IsTaken, IsTold, HasTaken};
 ghost use Rattle.lt_crew.specs.Workers.{IsSeenBy, EachPair, AreOut, HasPlayed, IsCaller, AreInOrder, seats_by};
 ghost use Rattle.lt_crew.specs.Crew.{IsRound, work_of};
+ghost use Rattle.lt_crew.specs.RoundsCrew.{RoundStays};
 
 use crate::gate::Gate;
 use crate::worker::{Worker, play};
@@ -182,7 +183,7 @@ fn play_lent<R: Threads + Sync, Y: Yard, G: Gate>(
 /// the rights again, and each pass has seen the whole history.
 ///
 /// Each transaction is played until it waits at a held line, a call is refused, or it has given back all. One that waits,
-/// or whose last call was refused, is left as it is. The only error is want of memory. Then the events that were made
+/// or whose last call was refused, is left as it is, and the registry stays as it was. The only error is want of memory. Then the events that were made
 /// stand, rights may be left with the workers, and no transaction is played any more.
 pub fn round<R: Threads + Sync, Y: Yard, G: Gate>(
     rt: &R,
@@ -203,6 +204,8 @@ pub fn round<R: Threads + Sync, Y: Yard, G: Gate>(
     ensures out { OnOk result (EachPair AreOut workers.old workers.new) }
     ensures spent { OnOk result (length (Y.Pass.view me.new).front + work_of (Y.setting yard.now) (seats_by workers.new)
         ≤ length (Y.Pass.view me.old).front + work_of (Y.setting yard.now) (seats_by workers.old)) }
+    ensures crew { OnOk result (RoundStays (Y.setting yard.now) (Y.Pass.view me.old).front (Y.Pass.view me.new).front
+        (seats_by workers.old) (seats_by workers.new)) }
     ensures ordered { OnOk result (AreInOrder Y.Pass.view workers.new) }
     ensures round { OnOk result (IsRound (Y.setting yard.now) [] (Y.Pass.view me.old).front (Y.Pass.view me.new).front
         (seats_by workers.old) (seats_by workers.new)) }
