@@ -15,3 +15,4 @@ pub mod AskedLaws
 pub mod CallersTurnLaws
 pub mod TurnedLaws
 pub mod RoundsCrewLaws
+pub mod NearerLaws

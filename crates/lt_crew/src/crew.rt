@@ -183,8 +183,8 @@ fn play_lent<R: Threads + Sync, Y: Yard, G: Gate>(
 /// the rights again, and each pass has seen the whole history.
 ///
 /// Each transaction is played until it waits at a held line, a call is refused, or it has given back all. One that waits,
-/// or whose last call was refused, is left as it is, and the registry stays as it was. The only error is want of memory. Then the events that were made
-/// stand, rights may be left with the workers, and no transaction is played any more.
+/// or whose last call was refused, is left as it is, and none is registered. The only error is want of memory. Then the
+/// events that were made stand, rights may be left with the workers, and no transaction is played any more.
 pub fn round<R: Threads + Sync, Y: Yard, G: Gate>(
     rt: &R,
     yard: &Y,

@@ -1,7 +1,7 @@
 //! Laws of crews.
 ghost use Rattle.lt_crew.specs.Caller.{CallerAsks, CallerPlaysOn};
 ghost use Rattle.lt_crew.specs.Rounds.{CallerMovesOne, CallersTurn, DealtAreMoved, RoundsAreARun, RoundsStand};
-ghost use Rattle.lt_crew.specs.RoundsCrew.{RoundsStayCrew};
+ghost use Rattle.lt_crew.specs.RoundsCrew.{CrewsComeNearer, RoundsStayCrew};
 
 /// Behind rounds each transaction of the trace has come as far as its own events of the one legal history tell, and no
 /// other has an event.
@@ -48,4 +48,10 @@ pub fn caller_asks()
 #[tactic(auto, using(crate::proofs::RoundsCrewLaws::rounds_stay_crew))]
 pub fn rounds_stay_crew()
     ensures { RoundsStayCrew }
+{}
+
+/// A round and the caller's turn behind it take no step back. Where a transaction that was dealt does not wait and has a step
+/// left, fewer are left to all.
+pub fn crews_come_nearer()
+    ensures { CrewsComeNearer }
 {}
