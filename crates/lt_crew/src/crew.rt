@@ -5,7 +5,7 @@ ghost use Rattle.lt_seq.specs.History.{IsFront};
 ghost use Rattle.lt_crew.specs.Workers.{IsManned, HasWorked, IsResting, IsLent, IsTaken, IsTold, HasTaken};
 ghost use Rattle.lt_crew.specs.Workers.{IsSeenBy, EachPair, AreOut, HasPlayed, IsCaller, AreInOrder, seats_by};
 ghost use Rattle.lt_crew.specs.Crew.{IsRound, work_of};
-ghost use Rattle.lt_crew.specs.RoundsCrew.{RoundStays};
+ghost use Rattle.lt_crew.specs.RoundsCrew.{ArePlayedOut, RoundStays};
 
 use crate::gate::Gate;
 use crate::worker::{Worker, play};
@@ -204,6 +204,7 @@ pub fn round<R: Threads + Sync, Y: Yard, G: Gate>(
     ensures out { OnOk result (EachPair AreOut workers.old workers.new) }
     ensures spent { OnOk result (length (Y.Pass.view me.new).front + work_of (Y.setting yard.now) (seats_by workers.new)
         ≤ length (Y.Pass.view me.old).front + work_of (Y.setting yard.now) (seats_by workers.old)) }
+    ensures passes { OnOk result (ArePlayedOut (Y.setting yard.now) (seats_by workers.old) (seats_by workers.new)) }
     ensures crew { OnOk result (RoundStays (Y.setting yard.now) (Y.Pass.view me.old).front (Y.Pass.view me.new).front
         (seats_by workers.old) (seats_by workers.new)) }
     ensures ordered { OnOk result (AreInOrder Y.Pass.view workers.new) }

@@ -79,3 +79,13 @@ returns-clause-crew g c =
     (passes_out g.Y.Pass.Pass.origin view place (view c.args.me.now).front (view c.play_lent.new.me).front
     c.args.workers.now c.lend.new.workers c.play_lent.new.workers c.requires.resting c.lend.ensures.workers plays c.requires.ordered
     c.requires.caller.passes)) c.play_lent.ensures.me c.play_lent.ensures.played
+
+pub returns-clause-passes : goal.returns-clause-passes
+returns-clause-passes g c =
+    let view = g.Y.Pass.Pass.view in
+    let setting = g.Y.Yard.setting c.args.yard.now in
+    on_ok c.play_lent.result
+    (λ plays. passes_out g.Y.Pass.Pass.origin view (origin_of (g.Y.Yard.identity c.args.yard.now) setting) (view c.args.me.now).front
+    (view c.play_lent.new.me).front
+    c.args.workers.now c.lend.new.workers c.play_lent.new.workers c.requires.resting c.lend.ensures.workers plays c.requires.ordered
+    c.requires.caller.passes) c.play_lent.ensures.played
