@@ -22,6 +22,7 @@ pub mod ChainLaws
 pub mod LeavingLaws
 pub mod FreeServed
 pub mod JoinedParts
+pub mod JoinPlans
 pub mod NoneServed
 pub mod CallLaws
 pub mod EndingLaws

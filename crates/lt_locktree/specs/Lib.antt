@@ -11,6 +11,7 @@ pub mod LawsOfFrees
 pub mod LawsOfFreePlans
 pub mod Leavings
 pub mod LawsOfJoins
+pub mod LawsOfJoinPlans
 pub mod Calls
 pub mod LawsOfCalls
 pub mod Endings

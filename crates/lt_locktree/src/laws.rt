@@ -9,6 +9,7 @@ ghost use Rattle.lt_locktree.specs.LawsOfFrees.{FreeCommits, NoneFreedCommits};
 ghost use Rattle.lt_locktree.specs.LawsOfFreePlans.{FreePlanCommits};
 ghost use Rattle.lt_locktree.specs.LawsOfGrants.{MergedAskCommits, PutInAskCommits};
 ghost use Rattle.lt_locktree.specs.LawsOfJoins.{JoinCommits};
+ghost use Rattle.lt_locktree.specs.LawsOfJoinPlans.{JoinPlanCommits};
 ghost use Rattle.lt_locktree.specs.LawsOfPlans.{GrownPlanCommits, MergedPlanCommits, PutInPlanCommits};
 
 /// What a search holds for a range answers who holds it, and an ask that others hold, by a commit that changes no row.
@@ -46,6 +47,11 @@ pub fn plans_of_frees()
 /// A join is a commit of a plan in which each longest run of neighbours of one owner becomes one row.
 pub fn joins_are_made()
     ensures { JoinCommits }
+{}
+
+/// The plan of a join, as it is made.
+pub fn plans_of_joins()
+    ensures { JoinPlanCommits }
 {}
 
 /// A deed's event is one call more of its pass, and its replies are the sequential table's, behind what was new to the pass.
