@@ -12,6 +12,7 @@ pub mod LawsOfFreePlans
 pub mod Leavings
 pub mod LawsOfJoins
 pub mod LawsOfJoinPlans
+pub mod Rejoined
 pub mod Calls
 pub mod LawsOfCalls
 pub mod Endings
