@@ -46,7 +46,7 @@ long_numbers : (rows : List PartRow) → length (numbers rows) ≡ length rows
 long_numbers [] = refl
 long_numbers (r ∷ rows) = ap suc (long_numbers rows)
 
-is_there : (rows : List PartRow) (i : ℕ) (d : PartRow) → i < length rows → 0 < times (get_or rows i d).row (numbers rows)
+pub is_there : (rows : List PartRow) (i : ℕ) (d : PartRow) → i < length rows → 0 < times (get_or rows i d).row (numbers rows)
 is_there [] i d lt = absurd (omega (arith, lt))
 is_there (r ∷ rows) zero d lt = let o : one_if (nat_eq r.row r.row) ≡ 1 = ap one_if (eq-eqb r.row r.row refl) in omega arith
 is_there (r ∷ rows) (suc i) d lt = let h = is_there rows i d (omega (arith, lt)) in omega arith
@@ -77,7 +77,7 @@ module _ (pass : RowPass) (k : YardPlan) (tree : ℕ) (asked : Interval) (here :
   in_whole on_left q some = let s = times-++ q (in_order (bare l.sub)) (here ∷ []) in omega arith
   in_whole on_right q some = omega arith
 
-  row_small : (q : ℕ) → 0 < times q (numbers rows) → q < 2 ^ 32 - 1
+  pub row_small : (q : ℕ) → 0 < times q (numbers rows) → q < 2 ^ 32 - 1
   row_small q some =
       let f = row_further (knows pass) tree asked here rows hangs more l lt_here q
       (in_whole l.place q (subst (λ (ns : List ℕ). 0 < times q ns) (sym (numbers_are (knows pass) tree asked here rows hangs more l closed lt_here)) some)) in

@@ -23,6 +23,7 @@ pub mod LeavingLaws
 pub mod FreeServed
 pub mod JoinedParts
 pub mod JoinPlans
+pub mod JoinServed
 pub mod RejoiningLaws
 pub mod NoneServed
 pub mod CallLaws

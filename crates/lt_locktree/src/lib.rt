@@ -33,7 +33,7 @@ pub use locktree::Locktree;
 pub use owners::owners_of;
 pub use planning::plan_rows;
 pub use questions::{ask_who, refuse_ask};
-pub use rejoining::{Rejoined, rejoin};
+pub use rejoining::{Rejoined, join_rows, part_rejoined, rejoin};
 pub use splitting::overlapping;
 pub use standing::stand_pairs;
 pub use tree_pass::TreePass;

@@ -1,10 +1,25 @@
 //! Rows of a whole tree, of which neighbours of one owner become one.
-ghost use Rattle.std.specs.Prelude.{map, IfOk};
-ghost use Rattle.lt_seq.specs.Pairs.{IsLawful};
+ghost use Rattle.std.specs.Prelude.{◌≡◌, ◌+◌, List, [], length, map, replicate, true, IfOk, IfErr};
+ghost use Rattle.lt_ranges.specs.Interval.{whole};
+ghost use Rattle.lt_seq.specs.declared.event.Deed.TheVariants.{Join};
+ghost use Rattle.lt_seq.specs.Pairs.{IsLawful, joined};
 ghost use Rattle.lt_forest.specs.Parts.{row_pair};
-ghost use Rattle.lt_locktree.specs.Rejoined.{IsRejoined};
+ghost use Rattle.lt_rows.specs.declared.image.RowImage.{RowImage as Image};
+ghost use Rattle.lt_rows.specs.declared.view.View.{View};
+ghost use Rattle.lt_rows.specs.Handles.{knows, IsPassOf, IsSamePass};
+ghost use Rattle.lt_tree.specs.States.{HoldsNone, OnlyRows, IsRefused};
+ghost use Rattle.lt_tree.specs.Gathers.{IsLockedWith, IsClosed};
+ghost use Rattle.lt_tree.specs.Pools.{pool_rows};
+ghost use Rattle.lt_locktree.specs.Makes.{IsOf, Makes};
+ghost use Rattle.lt_locktree.specs.Rejoined.{IsRejoined, IsRejoinedPart};
 
-use lt_forest::PartRow;
+use crate::asking::Asking;
+use crate::freeing::{fewer, plan_freed};
+use crate::leaving::LeftOut;
+use lt_forest::{Part, PartRow};
+use lt_rows::RowPass;
+use lt_seq::{Deed, Event, Fault, Receipt};
+use lt_tree::Locked;
 use std::alloc::{AllocError, Global};
 
 /// A tree's rows after a join.
@@ -40,4 +55,78 @@ pub fn rejoin(alloc: Global, rows: &[PartRow]) -> Result<Rejoined, AllocError>
     }
     kept.push(last)?;
     Ok(Rejoined { rows: kept, gone })
+}
+
+/// The part that a join leaves, below whose rows nothing hangs. The one error is want of memory.
+pub fn part_rejoined(alloc: Global, after: Rejoined) -> Result<LeftOut, AllocError>
+    ensures { IfOk result (λ left. (left.part.rows ≡ after.rows) × (left.gone ≡ after.gone)
+        × (left.part.hangs.items ≡ replicate (length after.rows.items + 1) 0)) }
+{
+    let hangs = vec![in alloc; 0; after.rows.len() + 1]?;
+    let part = Part {
+        rows: after.rows,
+        hangs,
+    };
+    Ok(LeftOut {
+        part,
+        gone: after.gone,
+    })
+}
+
+/// Joins a whole tree, below whose rows nothing hangs, by an event that ends the search: the rows that go are given to the pool.
+///
+/// # Errors
+/// `Busy` with the pool's anchor, only where it was met held by another pass, which never comes to a pass with all the rights; or want
+/// of memory. There is no event then, and no row is held.
+pub fn join_rows<'a>(
+    alloc: Global,
+    locked: Locked<'a>,
+    asking: &Asking,
+    left: &LeftOut,
+) -> Result<(RowPass, Receipt), (RowPass, Fault)>
+    requires fresh { (knows locked.pass).fresh ≡ true }
+    requires locked { IsLockedWith (knows locked.pass) locked.tree locked.asked locked.held locked.part.rows.items
+        locked.part.hangs.items (pool_rows (knows locked.pass).plan.trees locked.pool) }
+    requires closed { IsClosed locked.asked locked.part.rows.items locked.part.hangs.items }
+    requires asking { IsOf locked.pass locked.tree locked.asked asking.now }
+    requires anchor { (locked.held ≡ locked.tree) × (locked.asked ≡ whole) }
+    requires bare { locked.part.hangs.items ≡ replicate (length locked.part.rows.items + 1) 0 }
+    requires left { IsRejoinedPart locked.part.rows.items left.now }
+    ensures of { IfOk result (λ r. IsPassOf locked.entry.table.now r.0 × IsSamePass locked.entry.pass r.0 × HoldsNone (knows r.0)) }
+    ensures made { IfOk result (λ r. (u : View) × (plan : List Image) × OnlyRows (knows locked.entry.pass) u
+        × Makes u (knows r.0) plan r.1.event r.1.place) }
+    ensures event { IfOk result (λ r. r.1.event ≡ record {
+      pass = asking.now.pass;
+      txn = asking.now.txn;
+      deed = Join asking.now.tree (length locked.entry.part.rows.items)
+          (length (joined [] (map row_pair locked.entry.part.rows.items)));
+    }) }
+    ensures handed { IfErr result (λ r. IsPassOf locked.entry.table.now r.0 × IsSamePass locked.entry.pass r.0 × HoldsNone (knows r.0)
+        × OnlyRows (knows locked.entry.pass) (knows r.0)) }
+    ensures refused { IfErr result (λ r. IsRefused (knows locked.entry.pass) (knows r.0) r.1) }
+{
+    let mut locked = locked;
+    if let Err(fault) = locked.pool() {
+        return Err((locked.release(), fault));
+    }
+    let here = locked.held();
+    let stays = locked.image(here);
+    let anchor = locked.pool_row();
+    let pool = locked.image(anchor);
+    let Ok(plan) = plan_freed(alloc, &stays, &pool, asking, left) else {
+        return Err((locked.release(), Fault::OutOfMemory));
+    };
+    let count = left.gone.len();
+    let after = left.part.rows.len();
+    let event = Event {
+        pass: asking.pass,
+        txn: asking.txn,
+        deed: Deed::Join {
+            tree: asking.tree,
+            before: (after + count) as u64,
+            after: after as u64,
+        },
+    };
+    let (pass, place) = locked.finish(&plan, &event, fewer(count));
+    Ok((pass, Receipt { place, event }))
 }
