@@ -32,3 +32,4 @@ pub mod SplitLaws
 pub mod PutInServed
 pub mod EndedPlans
 pub mod EndedRows
+pub mod MergedRows

@@ -19,3 +19,4 @@ pub mod Endings
 pub mod Splits
 pub mod EndingPlans
 pub mod EndingRows
+pub mod Mergings
