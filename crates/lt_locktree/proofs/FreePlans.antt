@@ -20,7 +20,7 @@ use Rattle.lt_rows.specs.Lawful.{shown, shown_after, mode_before, mode_after}
 use Rattle.lt_rows.proofs.ThreeRows.{is_left, link_left}
 use Rattle.lt_tree.specs.Gathers.{Place, below_top, on_left, on_right, TopIs, IsLockedWith, IsClosed}
 use Rattle.lt_locktree.specs.Given.{IsChained, given_to}
-use Rattle.lt_locktree.specs.LawsOfFrees.{goes, freed_rows, RaisesAnchor, AreNumbersOf}
+use Rattle.lt_locktree.specs.LawsOfFrees.{goes, freed_rows, RaisesAnchor}
 use Rattle.lt_locktree.specs.LawsOfFreePlans.{RaisesImage, FreePlanCommits}
 use Rattle.lt_locktree.specs.PlannedParts.{InPlan, PlansRows, IsLoaded, ShowsRow}
 use Rattle.lt_locktree.specs.RelaidRows.{LaysRows}

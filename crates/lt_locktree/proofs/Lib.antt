@@ -33,3 +33,4 @@ pub mod PutInServed
 pub mod EndedPlans
 pub mod EndedRows
 pub mod MergedRows
+pub mod MergedServed

@@ -116,3 +116,16 @@ plans_merged a part new start end stays pool images plan link merged chains plan
           PlansRows a.tree a.range stays (x.0 ++ given_to pool link ∷ []) plan x.1.0 x.1.1)
           (λ j. (chains.images_are j, (merged.2 j, merged.3 j))) plans;
     }
+
+get_middle : (xs : List PartRow) (r : PartRow) (ys : List PartRow) → get_or (xs ++ r ∷ ys) (length xs) r ≡ r
+get_middle [] r ys = refl
+get_middle (x ∷ xs) r ys = get_middle xs r ys
+
+-- the row that stands at the start is the one that is read there
+pub stands_at : (rows : List PartRow) (start end : ℕ) (r : PartRow) → start < end → end ≤ length rows → IsRunAt rows start end r
+    → r ≡ get_or rows start r
+stands_at rows start end r some within is =
+    let ys : List PartRow = run_of rows start end ++ drop end rows in
+    let long : length (take start rows) ≡ start = length-take-le start rows (omega (arith, some, within)) in
+    sym (ap (λ (l : List PartRow). get_or l start r) is
+    ∙ (ap (λ (n : ℕ). get_or (take start rows ++ r ∷ ys) n r) (sym long) ∙ get_middle (take start rows) r ys))

@@ -66,7 +66,7 @@ fn with_score(stays: &RowImage, first: bool) -> RowImage
     image
 }
 
-// The change of the used rows that makes them fewer by so many.
+/// The change of the used rows that makes them fewer by so many.
 pub(crate) fn fewer(rows: usize) -> i64
     requires { rows < 9223372036854775808 }
     ensures { result +ℤ pos rows ≡ pos 0 }

@@ -31,7 +31,7 @@ pub use inserting::{plan_put_in, put_in_row};
 pub use joining::widen_whole;
 pub use leaving::{Leaving, LeftOut, leave_out, leave_widened};
 pub use locktree::Locktree;
-pub use merging::plan_merged;
+pub use merging::{merge_rows, plan_merged};
 pub use owners::owners_of;
 pub use planning::plan_rows;
 pub use questions::{ask_who, refuse_ask};
