@@ -1,5 +1,5 @@
 -- A join, as a function asks for it.
-use Rattle.std.proofs.Common.{◌≡◌, All, get_or, ◌-◌, ◌^◌, ℕ, ◌+◌, ◌<◌, List, [], ◌∷◌, ◌++◌, replicate, length, map, sym, ap, ◌∙◌, subst, arith, ne_eqb}
+use Rattle.std.proofs.Common.{refl, suc, ◌≡◌, All, get_or, ◌-◌, ◌^◌, ℕ, ◌+◌, ◌<◌, List, [], ◌∷◌, ◌++◌, replicate, length, map, sym, ap, ◌∙◌, subst, arith, ne_eqb}
 use Rattle.std.proofs.lemmas.List.Elements.{All-from_get_or}
 use Rattle.std.proofs.lemmas.List.{length-map}
 use Rattle.std.specs.Prelude.{pos, ℤ, ◌+ℤ◌, nat_eq}
@@ -124,3 +124,11 @@ rows_before rows left is = ap (λ (n : ℕ). length left.part.rows.items + n) (s
 -- and how many pairs there are after
 pub pairs_after : (rows : List PartRow) (left : LeftOut) → IsRejoinedPart rows left → length left.part.rows.items ≡ length (joined [] (map row_pair rows))
 pairs_after rows left is = sym (length-map left.part.rows.items row_pair) ∙ ap (λ (ps : List Pair). length ps) is.pairs
+
+-- links that are all 0
+pub all_zero : (hs : List ℕ) → All (λ (h : ℕ). h ≡ 0) hs → hs ≡ replicate (length hs) 0
+all_zero [] all = refl
+all_zero (h ∷ hs) all =
+    let first : h ≡ 0 = all 0 0 (omega arith) in
+    let rest : hs ≡ replicate (length hs) 0 = all_zero hs (λ k d less. all (suc k) d (omega arith)) in
+    λ j. first j ∷ rest j

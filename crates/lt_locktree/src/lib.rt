@@ -35,7 +35,7 @@ pub use merging::{merge_rows, plan_merged};
 pub use owners::owners_of;
 pub use planning::plan_rows;
 pub use questions::{ask_who, refuse_ask};
-pub use rejoining::{Rejoined, join_rows, part_rejoined, rejoin};
+pub use rejoining::{Rejoined, join_rows, join_tree, part_rejoined, rejoin};
 pub use splitting::overlapping;
 pub use standing::stand_pairs;
 pub use tree_pass::TreePass;

@@ -8,13 +8,16 @@ ghost use Rattle.lt_rows.specs.declared.image.RowImage.{RowImage as Image};
 ghost use Rattle.lt_rows.specs.declared.view.View.{View};
 ghost use Rattle.lt_rows.specs.Handles.{knows, IsPassOf, IsSamePass};
 ghost use Rattle.lt_tree.specs.States.{HoldsNone, OnlyRows, IsRefused};
-ghost use Rattle.lt_tree.specs.Gathers.{IsLockedWith, IsClosed};
+ghost use Rattle.lt_tree.specs.Gathers.{IsLocked, IsLockedWith, IsClosed};
+ghost use Rattle.lt_tree.specs.declared.pool.PoolRows.TheVariants.{Nothing};
+ghost use Rattle.lt_forest.specs.declared.part.PartRow.{PartRow};
 ghost use Rattle.lt_tree.specs.Pools.{pool_rows};
 ghost use Rattle.lt_locktree.specs.Makes.{IsOf, Makes};
 ghost use Rattle.lt_locktree.specs.Rejoined.{IsRejoined, IsRejoinedPart};
 
 use crate::asking::Asking;
 use crate::freeing::{fewer, plan_freed};
+use crate::joining::widen_whole;
 use crate::leaving::LeftOut;
 use lt_forest::{Part, PartRow};
 use lt_rows::RowPass;
@@ -129,4 +132,46 @@ pub fn join_rows<'a>(
     };
     let (pass, place) = locked.finish(&plan, &event, fewer(count));
     Ok((pass, Receipt { place, event }))
+}
+
+/// Joins a whole tree, whose anchor a search keeps, by an event that ends the search: each longest run of neighbours of one owner becomes
+/// one row, and the others of the run are given to the pool.
+///
+/// # Errors
+/// `Busy` only where a row was met held by another pass, which never comes to a pass with all the rights; or want of memory. There is
+/// no event then, and no row is held.
+pub fn join_tree<'a>(
+    alloc: Global,
+    locked: Locked<'a>,
+    asking: &Asking,
+) -> Result<(RowPass, Receipt), (RowPass, Fault)>
+    requires fresh { (knows locked.pass).fresh ≡ true }
+    requires locked { IsLocked (knows locked.pass) locked.tree locked.asked locked.held locked.part.rows.items locked.part.hangs.items }
+    requires pool { locked.pool ≡ Nothing }
+    requires closed { IsClosed locked.asked locked.part.rows.items locked.part.hangs.items }
+    requires asking { IsOf locked.pass locked.tree locked.asked asking.now }
+    requires anchor { (locked.held ≡ locked.tree) × (locked.asked ≡ whole) }
+    ensures of { IfOk result (λ r. IsPassOf locked.entry.table.now r.0 × IsSamePass locked.entry.pass r.0 × HoldsNone (knows r.0)) }
+    ensures made { IfOk result (λ r. (u : View) × (plan : List Image) × OnlyRows (knows locked.entry.pass) u
+        × Makes u (knows r.0) plan r.1.event r.1.place) }
+    ensures event { IfOk result (λ r. (rows : List PartRow) × (r.1.event ≡ record {
+      pass = asking.now.pass;
+      txn = asking.now.txn;
+      deed = Join asking.now.tree (length rows) (length (joined [] (map row_pair rows)));
+    })) }
+    ensures handed { IfErr result (λ r. IsPassOf locked.entry.table.now r.0 × IsSamePass locked.entry.pass r.0 × HoldsNone (knows r.0)
+        × OnlyRows (knows locked.entry.pass) (knows r.0)) }
+    ensures refused { IfErr result (λ r. IsRefused (knows locked.entry.pass) (knows r.0) r.1) }
+{
+    let mut locked = locked;
+    if let Err(fault) = widen_whole(&mut locked) {
+        return Err((locked.release(), fault));
+    }
+    let Ok(after) = rejoin(alloc, &locked.part().rows) else {
+        return Err((locked.release(), Fault::OutOfMemory));
+    };
+    let Ok(left) = part_rejoined(alloc, after) else {
+        return Err((locked.release(), Fault::OutOfMemory));
+    };
+    join_rows(alloc, locked, asking, &left)
 }
