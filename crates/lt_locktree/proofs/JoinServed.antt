@@ -55,7 +55,8 @@ module _ (pass : RowPass) (k : YardPlan) (tree : ℕ) (here : ℕ) (rows : List 
 
   plans_rows : PlansRows tree whole stays (plans_here.chained ++ given_to pool plans_here.link ∷ []) plan left.part.rows.items
       (replicate (length left.part.rows.items + 1) 0)
-  plans_rows = subst (λ (hs : List ℕ). PlansRows tree whole stays (plans_here.chained ++ given_to pool plans_here.link ∷ []) plan left.part.rows.items hs)
+  plans_rows =
+      subst (λ (hs : List ℕ). PlansRows tree whole stays (plans_here.chained ++ given_to pool plans_here.link ∷ []) plan left.part.rows.items hs)
       is.bare plans_here.plans
 
   was : images (knows pass) here ≡ stays.words
@@ -72,10 +73,18 @@ module _ (pass : RowPass) (k : YardPlan) (tree : ℕ) (here : ℕ) (rows : List 
 
   join_served : (change : ℤ) → change +ℤ pos (length left.gone.items) ≡ pos 0
       → IsCommit (knows pass).plan (knows pass)
-      record { pass = a.pass; txn = a.txn; deed = Join a.tree (length left.part.rows.items + length left.gone.items) (length left.part.rows.items) } plan change
+      record {
+        pass = a.pass;
+        txn = a.txn;
+        deed = Join a.tree (length left.part.rows.items + length left.gone.items) (length left.part.rows.items);
+      } plan change
   join_served change counts =
       join_plan_commits (knows pass) tree here rows left.part.rows.items left.gone.items more stays pool plans_here.chained plan plans_here.link
-      record { pass = a.pass; txn = a.txn; deed = Join a.tree (length left.part.rows.items + length left.gone.items) (length left.part.rows.items) } change l closed lt_here at
+      record {
+        pass = a.pass;
+        txn = a.txn;
+        deed = Join a.tree (length left.part.rows.items + length left.gone.items) (length left.part.rows.items);
+      } change l closed lt_here at
       (ap mode_of (sym was ∙ ap (images (knows pass)) top))
       is.pairs is.parted pool_in seen pool_loaded plans_here.chained_is plans_rows
       (ap (λ (n : ℕ). n + 1) of.0 ∙ sym marked)
@@ -103,7 +112,11 @@ module _ (pass : RowPass) (k : YardPlan) (tree : ℕ) (here : ℕ) (rows : List 
   pub join_all : (change : ℤ) → change +ℤ pos (length left.gone.items) ≡ pos 0
       → AllHeld (knows pass).held plan
       × IsCommit (knows pass).plan (knows pass)
-      record { pass = a.pass; txn = a.txn; deed = Join a.tree (length left.part.rows.items + length left.gone.items) (length left.part.rows.items) } plan change
+      record {
+        pass = a.pass;
+        txn = a.txn;
+        deed = Join a.tree (length left.part.rows.items + length left.gone.items) (length left.part.rows.items);
+      } plan change
   join_all change counts = (join_held, join_served change counts)
 
 -- the rows that stay have small numbers, as those before them
@@ -122,7 +135,8 @@ pub rows_before : (rows : List PartRow) (left : LeftOut) → IsRejoinedPart rows
 rows_before rows left is = ap (λ (n : ℕ). length left.part.rows.items + n) (sym (length-numbers left.gone.items)) ∙ is.parted.all
 
 -- and how many pairs there are after
-pub pairs_after : (rows : List PartRow) (left : LeftOut) → IsRejoinedPart rows left → length left.part.rows.items ≡ length (joined [] (map row_pair rows))
+pub pairs_after : (rows : List PartRow) (left : LeftOut) → IsRejoinedPart rows left
+    → length left.part.rows.items ≡ length (joined [] (map row_pair rows))
 pairs_after rows left is = sym (length-map left.part.rows.items row_pair) ∙ ap (λ (ps : List Pair). length ps) is.pairs
 
 -- links that are all 0

@@ -48,7 +48,8 @@ front_back p (y ∷ []) n =
 
     right : (a : Bool) → (a ≡ true → p.owner ≡ y.owner) → with_back (if a then one p y ∷ [] else p ∷ y ∷ []) n
         ≡ (if a then (if are_joined [] y n then one p n ∷ [] else one p y ∷ n ∷ []) else p ∷ (if are_joined [] y n then one y n ∷ [] else y ∷ n ∷ []))
-    right true same = ap (λ (o : ℕ). if are_joined [] (record { owner = o; range = y.range }) n then one p n ∷ [] else one p y ∷ n ∷ []) (same refl)
+    right true same =
+        ap (λ (o : ℕ). if are_joined [] (record { owner = o; range = y.range }) n then one p n ∷ [] else one p y ∷ n ∷ []) (same refl)
     right false same = refl
 front_back p (y ∷ z ∷ zs) n = by (are_joined [] p y)
   where
@@ -94,7 +95,8 @@ pub record JoinsSome (rows : List PartRow) (i : ℕ) (kept : List PartRow) (last
   pub parted : StayOrGo (take i rows) (kept ++ last ∷ []) (numbers gone)
   pub lawful : IsLawful (row_pair last ∷ map row_pair (drop i rows))
 
-pub first_alone : (rows : List PartRow) (r : PartRow) → 0 < length rows → r ≡ get_or rows 0 r → IsLawful (map row_pair rows) → JoinsSome rows 1 [] r []
+pub first_alone : (rows : List PartRow) (r : PartRow) → 0 < length rows → r ≡ get_or rows 0 r → IsLawful (map row_pair rows)
+    → JoinsSome rows 1 [] r []
 first_alone [] r some is lawful = absurd (omega arith)
 first_alone (x ∷ xs) r some is lawful = record {
   pairs = ap (λ (y : PartRow). row_pair y ∷ []) is;
@@ -102,7 +104,8 @@ first_alone (x ∷ xs) r some is lawful = record {
   lawful = subst (λ (y : PartRow). IsLawful (row_pair y ∷ map row_pair xs)) (sym is) lawful;
 }
 
-times_back : (rows : List PartRow) (r : PartRow) (q : ℕ) → times q (numbers (rows ++ r ∷ [])) ≡ times q (numbers rows) + times q (r.row ∷ [])
+times_back : (rows : List PartRow) (r : PartRow) (q : ℕ)
+    → times q (numbers (rows ++ r ∷ [])) ≡ times q (numbers rows) + times q (r.row ∷ [])
 times_back rows r q = ap (times q) (map_app (λ (x : PartRow). x.row) rows (r ∷ [])) ∙ times-++ q (numbers rows) (r.row ∷ [])
 
 long_back : (rows : List PartRow) (r : PartRow) → length (rows ++ r ∷ []) ≡ length rows + 1
@@ -118,7 +121,10 @@ module _ (rows : List PartRow) (i : ℕ) (kept : List PartRow) (last : PartRow) 
   rows_more = take_more rows i r short ∙ ap (λ (x : PartRow). take i rows ++ x ∷ []) (sym row_is)
 
   lawful_now : IsLawful (row_pair last ∷ row_pair r ∷ map row_pair (drop (i + 1) rows))
-  lawful_now = subst (λ (rs : List PartRow). IsLawful (row_pair last ∷ map row_pair rs)) (drop_more rows i r short ∙ ap (λ (x : PartRow). x ∷ drop (i + 1) rows) (sym row_is)) so_far.lawful
+  lawful_now =
+      subst (λ (rs : List PartRow). IsLawful (row_pair last ∷ map row_pair rs))
+      (drop_more rows i r short ∙ ap (λ (x : PartRow). x ∷ drop (i + 1) rows) (sym row_is))
+      so_far.lawful
 
   joined_now : joined [] (map row_pair (take (i + 1) rows)) ≡ with_back (map row_pair kept ++ row_pair last ∷ []) (row_pair r)
   joined_now =

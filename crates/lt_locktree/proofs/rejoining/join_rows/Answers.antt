@@ -34,7 +34,12 @@ image-stays-requires c =
 served : (c : After-fewer) (change : ℤ) → change +ℤ pos (length c.args.left.now.gone.items) ≡ pos 0
     → AllHeld (knows c.pool.new.self.pass).held c.in-Ok.plan.items
     × IsCommit (knows c.pool.new.self.pass).plan (knows c.pool.new.self.pass)
-    record { pass = c.args.asking.now.pass; txn = c.args.asking.now.txn; deed = Join c.args.asking.now.tree (length c.args.left.now.part.rows.items + length c.args.left.now.gone.items) (length c.args.left.now.part.rows.items) }
+    record {
+      pass = c.args.asking.now.pass;
+      txn = c.args.asking.now.txn;
+      deed = Join c.args.asking.now.tree (length c.args.left.now.part.rows.items + length c.args.left.now.gone.items)
+          (length c.args.left.now.part.rows.items);
+    }
     c.in-Ok.plan.items change
 served c change counts =
     let s = c.pool.new.self in
@@ -72,7 +77,8 @@ served c change counts =
     (subst (λ (x : Interval × List ℕ). IsLockedWith v s.tree x.0 s.held s.part.rows.items x.1 (pool_rows v.plan.trees s.pool)) (λ j. (asked j, bare j))
     c.pool.ensures.locked)
     closed s.of.0.1 s.of.2 a of s.pass.numbered.0
-    (subst (λ (p : PoolRows). 0 < times v.plan.trees (pool_rows v.plan.trees p)) (sym c.in_default.ensures.pool) (anchor_in v.plan.trees c.args.locked.pool))
+    (subst (λ (p : PoolRows). 0 < times v.plan.trees (pool_rows v.plan.trees p)) (sym c.in_default.ensures.pool)
+    (anchor_in v.plan.trees c.args.locked.pool))
     top stays pool loaded pool_loaded c.args.left.now
     (subst (λ (p : Part). IsRejoinedPart p.rows.items c.args.left.now) (sym kept.4) c.requires.left)
     c.in-Ok.plan.items c.in-Ok.ensures change counts

@@ -1,4 +1,4 @@
-use Rattle.std.proofs.Common.{[], ◌≡◌, ◌+◌, ◌<◌, ◌∙◌, sym, ap, subst, List, length, map, replicate, ℕ, Result, Ok, Err, IfOk}
+use Rattle.std.proofs.Common.{[], ◌<◌, ◌∙◌, sym, ap, subst, List, map, replicate, ℕ, Result, Ok, Err, IfOk}
 use Rattle.lt_seq.specs.declared.plan.YardPlan.{YardPlan}
 use Rattle.lt_seq.specs.Pairs.{IsLawful}
 use Rattle.lt_forest.specs.Parts.{row_pair}
