@@ -121,11 +121,15 @@ get_middle : (xs : List PartRow) (r : PartRow) (ys : List PartRow) → get_or (x
 get_middle [] r ys = refl
 get_middle (x ∷ xs) r ys = get_middle xs r ys
 
--- the row that stands at the start is the one that is read there
+-- the row that stands at a place is the one that is read there
+pub read_at : (rows : List PartRow) (at : ℕ) (r : PartRow) (ys : List PartRow) → at ≤ length rows → rows ≡ take at rows ++ r ∷ ys
+    → r ≡ get_or rows at r
+read_at rows at r ys within is =
+    let long : length (take at rows) ≡ at = length-take-le at rows within in
+    sym (ap (λ (l : List PartRow). get_or l at r) is
+    ∙ (ap (λ (n : ℕ). get_or (take at rows ++ r ∷ ys) n r) (sym long) ∙ get_middle (take at rows) r ys))
+
 pub stands_at : (rows : List PartRow) (start end : ℕ) (r : PartRow) → start < end → end ≤ length rows → IsRunAt rows start end r
     → r ≡ get_or rows start r
 stands_at rows start end r some within is =
-    let ys : List PartRow = run_of rows start end ++ drop end rows in
-    let long : length (take start rows) ≡ start = length-take-le start rows (omega (arith, some, within)) in
-    sym (ap (λ (l : List PartRow). get_or l start r) is
-    ∙ (ap (λ (n : ℕ). get_or (take start rows ++ r ∷ ys) n r) (sym long) ∙ get_middle (take start rows) r ys))
+    read_at rows start r (run_of rows start end ++ drop end rows) (omega (arith, some, within)) is

@@ -128,7 +128,8 @@ module _ (pass : RowPass) (k : YardPlan) (tree : ℕ) (asked : Interval) (here :
       let m = run_long rows start end some within in
       let fewer : length run ≡ end - start - 1 = omega (arith, m, some) in (
         merged_rows_held v tree asked here (take start rows) merged.r (merged_row a.txn asked merged.r run) run (drop end rows) hangs more new_hangs
-            locked_here closed_here lt_here asked_is stays pool merged.given merged.link pool_in loaded pool_loaded merged.chained plan refl plans_here,
+            locked_here closed_here lt_here asked_is stays pool merged.given merged.link pool_in loaded pool_loaded merged.chained plan refl
+            plans_here,
         merged_plan_commits v tree asked here (take start rows) merged.r run (drop end rows) hangs more stays pool merged.given merged.link plan
             record { pass = a.pass; txn = a.txn; deed = Ask a.tree a.range Granted } change locked_here closed_here lt_here asked_is
             (subst (λ (i : Interval). StandsBetween i (take start rows) (drop end rows)) of.2 between) own_here pool_in loaded pool_loaded

@@ -1,7 +1,9 @@
 -- An event that a search ends with.
-use Rattle.std.specs.Prelude.{◌≡◌, ℕ, List}
+use Rattle.std.specs.Prelude.{◌≡◌, ℕ, ◌<◌, List, [], length}
 use Rattle.lt_ranges.specs.Interval.{Interval}
 use Rattle.lt_seq.specs.declared.event.Event.{Event}
+use Rattle.lt_seq.specs.declared.event.Reply.{Reply}
+use Rattle.lt_seq.specs.declared.event.Reply.TheVariants.{Granted, Buffered, HeldBy}
 use Rattle.lt_rows.specs.declared.image.RowImage.{RowImage}
 use Rattle.lt_rows.specs.declared.pass.RowPass.{RowPass}
 use Rattle.lt_rows.specs.declared.view.View.{View}
@@ -16,3 +18,9 @@ IsOf pass tree range a = (a.pass ≡ pass.number) × (a.tree ≡ tree) × (a.ran
 -- the pass has made the event with this plan, and all rows have been given back since then
 abbrev pub Makes : View → View → List RowImage → Event → ℕ → Type 0
 Makes v w plan e place = (u : View) × Commits v u plan e place × OnlyHeld u w
+
+-- the reply of an ask that these others stand against
+abbrev pub IsReplyTo : List ℕ → Reply → Type 0
+IsReplyTo others Granted = others ≡ []
+IsReplyTo others Buffered = ⊥
+IsReplyTo others (HeldBy owners) = (owners ≡ others) × (0 < length others)
