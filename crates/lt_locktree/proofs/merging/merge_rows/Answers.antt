@@ -92,7 +92,8 @@ served c change counts =
     let back : c.args.locked.part ≡ s.part = sym kept.4 in
     merged_all s.pass s.table.now.plan s.tree s.asked s.held s.part (pool_rows v.plan.trees s.pool) c.pool.ensures.locked
     closed s.of.0.1 s.of.2 a of interval s.pass.numbered.0
-    (subst (λ (p : PoolRows). 0 < times v.plan.trees (pool_rows v.plan.trees p)) (sym c.in_default.ensures.pool) (anchor_in v.plan.trees c.args.locked.pool))
+    (subst (λ (p : PoolRows). 0 < times v.plan.trees (pool_rows v.plan.trees p)) (sym c.in_default.ensures.pool)
+    (anchor_in v.plan.trees c.args.locked.pool))
     stays pool loaded pool_loaded start end c.requires.some
     (subst (λ (p : Part). end ≤ length p.rows.items) back c.requires.within)
     (subst (λ (p : Part). StandsBetween a.range (take start p.rows.items) (drop end p.rows.items)) back c.requires.between)
@@ -113,6 +114,7 @@ pub finish-pass-requires-clause-lawful : goal.finish-pass-requires-clause-lawful
 finish-pass-requires-clause-lawful c =
     let fits : FitsSigned w64 c.fewer.result = record { sfits = c.fewer.type_inv } in
     subst (λ (x : (View × List RowImage) × ℤ). IsCommit x.0.0.plan x.0.0
-    record { pass = c.args.asking.now.pass; txn = c.args.asking.now.txn; deed = Ask c.args.asking.now.tree c.args.asking.now.range Granted } x.0.1 x.1)
+    record { pass = c.args.asking.now.pass; txn = c.args.asking.now.txn; deed = Ask c.args.asking.now.tree c.args.asking.now.range Granted }
+    x.0.1 x.1)
     (λ j. ((sym (same_view c) j, sym c.deref.ensures.value j), sym (to_z-of_z w64 c.fewer.result fits) j))
     (served c c.fewer.result c.fewer.ensures).1

@@ -25,7 +25,7 @@ returns c =
     let pool : RowImage = c.args.pool.now in
     let merged : IsMerged a c.args.part.now start end c.in_ok-new.new = c.in_ok-new.ensures in
     let chains : Chains [] c.chain.new.images.items c.in_ok-link.link (reverse (run_of rows start end)) (slice_index pool.words 17) = search rules in
-    let plans : PlansRows a.tree a.range c.args.stays.now (c.chain.new.images.items ++ given_to pool c.in_ok-link.link ∷ []) c.plan_rows.new.images.items
-    c.in_ok-new.new.rows.items c.in_ok-new.new.hangs.items = search rules in
+    let plans : PlansRows a.tree a.range c.args.stays.now (c.chain.new.images.items ++ given_to pool c.in_ok-link.link ∷ [])
+    c.plan_rows.new.images.items c.in_ok-new.new.rows.items c.in_ok-new.new.hangs.items = search rules in
     plans_merged a c.args.part.now c.in_ok-new.new start end c.args.stays.now pool c.chain.new.images.items c.plan_rows.new.images.items
     c.in_ok-link.link merged chains plans

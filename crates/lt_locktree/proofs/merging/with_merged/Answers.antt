@@ -18,7 +18,8 @@ returns c =
     let is : r ≡ get_or rows start r = search rules in
     let own = all_own txn range rows start end r c.requires.some c.requires.within is c.requires.own in
     let made : PartRow = record { row = r.row; owner = txn; range = c.span_of.result } in
-    let spanned : c.span_of.result ≡ fold (λ (i : Interval) (x : PartRow). hull i x.range) range (take (end - start) (drop start rows)) = search rules in
+    let spanned : c.span_of.result ≡ fold (λ (i : Interval) (x : PartRow). hull i x.range) range (take (end - start) (drop start rows)) =
+    search rules in
     let one : made ≡ merged_row txn range r (run_of rows start end) =
     ap (λ (i : Interval). record { row = r.row; owner = txn; range = i })
     (spanned
