@@ -57,7 +57,6 @@ pub mod SameOrder
 pub mod PartGaps
 -- each public law by its name
 pub mod PublicLaws
-pub mod PublicPartLaws
 -- worked
 pub mod WorkedTrees
 pub mod WorkedFirstFree

@@ -10,7 +10,7 @@ use Rattle.lt_seq.specs.SeqPass.{plain}
 use Rattle.lt_seq.specs.Table.{is_buffered, pairs_by, reply_by}
 use Rattle.lt_forest.specs.Trees.{pairs_in}
 use Rattle.lt_forest.specs.Cuts.{bare}
-use Rattle.lt_forest.proofs.PublicPartLaws.{side_shows_who, side_shows_held}
+use Rattle.lt_forest.proofs.PublicLaws.{side_shows_who, side_shows_held}
 use Rattle.lt_rows.specs.Lawful.{shown}
 use Rattle.lt_locktree.specs.LawsOfDeeds.{WhoCommits, HeldAskCommits}
 use Rattle.lt_locktree.proofs.HeldParts.{sub_pairs}

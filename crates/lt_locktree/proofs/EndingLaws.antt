@@ -17,7 +17,7 @@ use Rattle.lt_forest.specs.Cuts.{bare}
 use Rattle.lt_forest.specs.Forest.{IsTree}
 use Rattle.lt_forest.specs.Parts.{numbers, row_pair}
 use Rattle.lt_forest.specs.Views.{AllHeld, PoolPlan, no_pool, from_pool}
-use Rattle.lt_forest.proofs.PublicPartLaws.{rows_show_pairs}
+use Rattle.lt_forest.proofs.PublicLaws.{rows_show_pairs}
 use Rattle.lt_forest.proofs.RowsAndHangs.{numbers_of}
 use Rattle.lt_rows.specs.Lawful.{shown_after, ends_buffer, IsCommit}
 use Rattle.lt_rows.proofs.Planned.{row_held}

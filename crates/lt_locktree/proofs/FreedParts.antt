@@ -19,7 +19,7 @@ use Rattle.lt_forest.specs.Parts.{rows_of, hangs_of, row_pair, numbers}
 use Rattle.lt_forest.specs.Plans.{Top, ShowsDeed, SameRows}
 use Rattle.lt_forest.specs.Sides.{around as beside}
 use Rattle.lt_forest.specs.Views.{PlansOnly, no_pool}
-use Rattle.lt_forest.proofs.PublicPartLaws.{left_out_loosens, left_out_is_freed, left_out_keeps_rows, side_shows_free}
+use Rattle.lt_forest.proofs.PublicLaws.{left_out_loosens, left_out_is_freed, left_out_keeps_rows, side_shows_free}
 use Rattle.lt_forest.proofs.WidenLaws.{length-hangs_of}
 use Rattle.lt_rows.specs.declared.view.View.{View}
 use Rattle.lt_rows.specs.declared.image.RowImage.{RowImage}

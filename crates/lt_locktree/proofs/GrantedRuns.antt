@@ -22,7 +22,7 @@ use Rattle.lt_forest.specs.Views.{IsIn, AllHeld, PlansOnly, PoolPlan, no_pool, f
 use Rattle.lt_forest.proofs.SameRows.{times-++}
 use Rattle.lt_forest.proofs.PairLists.{map_app, lawful_left, lawful_right}
 use Rattle.lt_forest.proofs.RowsAndHangs.{numbers_of}
-use Rattle.lt_forest.proofs.PublicPartLaws.{side_is_lawful, aside_is_closed, rows_show_pairs, overlapping_run_hangs_none, free_place_is_there, span_may_merge, merged_run_loosens, merged_run_keeps_rows, merged_run_is_granted, put_in_loosens, put_in_keeps_rows}
+use Rattle.lt_forest.proofs.PublicLaws.{side_is_lawful, aside_is_closed, rows_show_pairs, overlapping_run_hangs_none, free_place_is_there, span_may_merge, merged_run_loosens, merged_run_keeps_rows, merged_run_is_granted, put_in_loosens, put_in_keeps_rows}
 use Rattle.lt_rows.specs.declared.view.View.{View}
 use Rattle.lt_rows.specs.declared.image.RowImage.{RowImage}
 use Rattle.lt_rows.specs.Views.{has, planned_rows}

@@ -24,8 +24,7 @@ use Rattle.lt_forest.specs.Links.{left_of, right_of}
 use Rattle.lt_forest.specs.Sides.{around as beside}
 use Rattle.lt_forest.specs.Views.{IsIn, AllHeld, PlansOnly, TopStays, PoolPlan, no_pool, from_pool, PlanLays}
 use Rattle.lt_forest.proofs.SameRows.{times-++}
-use Rattle.lt_forest.proofs.PublicLaws.{read_pool_is_further}
-use Rattle.lt_forest.proofs.PublicPartLaws.{side_loosens, side_has_same_rows, side_shows_granted}
+use Rattle.lt_forest.proofs.PublicLaws.{read_pool_is_further, side_loosens, side_has_same_rows, side_shows_granted}
 use Rattle.lt_rows.specs.declared.view.View.{View}
 use Rattle.lt_rows.specs.declared.image.RowImage.{RowImage}
 use Rattle.lt_rows.specs.Nodes.{nodes, modes}

@@ -9,8 +9,7 @@ use Rattle.lt_forest.specs.Trees.{pairs_in}
 use Rattle.lt_forest.specs.Cuts.{Cut, bare, IsRow}
 use Rattle.lt_forest.specs.Parts.{row_pair}
 use Rattle.lt_forest.specs.Views.{IsIn, HoldsPart}
-use Rattle.lt_forest.proofs.PublicLaws.{held_part_is_further}
-use Rattle.lt_forest.proofs.PublicPartLaws.{held_part_is_lawful, rows_show_pairs}
+use Rattle.lt_forest.proofs.PublicLaws.{held_part_is_further, held_part_is_lawful, rows_show_pairs}
 use Rattle.lt_rows.specs.declared.view.View.{View}
 use Rattle.lt_rows.specs.Nodes.{nodes, modes}
 use Rattle.lt_rows.specs.Views.{has, rows_of}

@@ -18,8 +18,7 @@ use Rattle.lt_forest.specs.Cuts.{Cut, End, bare, ends, Looser}
 use Rattle.lt_forest.specs.Parts.{rows_of, hangs_of, row_pair, numbers, hanging}
 use Rattle.lt_forest.specs.Plans.{ShowsDeed, SameRows}
 use Rattle.lt_forest.specs.Views.{PlansOnly}
-use Rattle.lt_forest.proofs.PublicLaws.{ends_are_hanging}
-use Rattle.lt_forest.proofs.PublicPartLaws.{rows_show_pairs}
+use Rattle.lt_forest.proofs.PublicLaws.{ends_are_hanging, rows_show_pairs}
 use Rattle.lt_forest.proofs.RowsAndHangs.{numbers_of}
 use Rattle.lt_rows.specs.Views.{planned_rows}
 use Rattle.lt_rows.specs.Lawful.{shown, shown_after, mode_before, mode_after}

@@ -4,7 +4,7 @@ use Rattle.std.proofs.lemmas.List.{take_more}
 use Rattle.lt_ranges.specs.Interval.{Interval}
 use Rattle.lt_forest.specs.declared.part.PartRow.{PartRow}
 use Rattle.lt_forest.specs.Items.{LeavesOut}
-use Rattle.lt_forest.proofs.PublicPartLaws.{none_is_left_out, one_is_kept, one_is_left_out}
+use Rattle.lt_forest.proofs.PublicLaws.{none_is_left_out, one_is_kept, one_is_left_out}
 use Rattle.lt_locktree.specs.LawsOfFrees.{goes, freed_rows}
 
 -- of the first rows some are left out, and the hang before the next one is known

@@ -19,7 +19,7 @@ mod yard;
 pub use event::{Deed, Event, Held, JoinNote, Look, Mode, Pair, Receipt, Reply};
 pub use fault::Fault;
 pub use lists::{HeldList, Owners};
-pub use pairs::{add_held, grant};
+pub use pairs::{add_held, free, grant, others_of};
 pub use plan::{PLACES_END, YardPlan};
 pub use runs::{JoinCounts, join_pairs};
 pub use seq_note::SeqNote;

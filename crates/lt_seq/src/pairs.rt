@@ -40,7 +40,7 @@ fn keep_others(met: &mut [Pair], txn: u64) -> usize
 }
 
 /// Removes the transaction's pairs that overlap the range, and says how many they were.
-pub(crate) fn free(pairs: &mut Vec<Pair>, txn: u64, range: &KeyRange) -> usize
+pub fn free(pairs: &mut Vec<Pair>, txn: u64, range: &KeyRange) -> usize
     requires { IsLawful pairs.old.items }
     ensures count { result ≡ count_freed txn range.now pairs.old.items }
     ensures pairs { pairs.new.items ≡ freed txn range.now pairs.old.items }
@@ -84,7 +84,7 @@ pub fn grant(pairs: &mut Vec<Pair>, txn: u64, range: &KeyRange) -> Result<(), Al
 }
 
 /// The owners other than the transaction whose ranges overlap, ascending and each once.
-pub(crate) fn others_of(
+pub fn others_of(
     alloc: Global,
     pairs: &[Pair],
     txn: u64,

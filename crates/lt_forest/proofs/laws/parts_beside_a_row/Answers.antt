@@ -1,4 +1,4 @@
-use Rattle.lt_forest.proofs.PublicPartLaws.{side_is_part, held_side_is_part, side_adds_the_row, side_is_closed, side_loosens, side_has_same_rows, side_is_lawful}
+use Rattle.lt_forest.proofs.PublicLaws.{side_is_part, held_side_is_part, side_adds_the_row, side_is_closed, side_loosens, side_has_same_rows, side_is_lawful}
 use Rattle.lt_forest.proofs.laws.parts_beside_a_row.Goals as goal
 
 pub returns : goal.returns

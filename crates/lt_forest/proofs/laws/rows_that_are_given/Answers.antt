@@ -1,4 +1,4 @@
-use Rattle.lt_forest.proofs.PublicPartLaws.{given_are_named_within, chain_is_named_within, given_are_named_by_held, chain_is_named_by_held}
+use Rattle.lt_forest.proofs.PublicLaws.{given_are_named_within, chain_is_named_within, given_are_named_by_held, chain_is_named_by_held}
 use Rattle.lt_forest.proofs.laws.rows_that_are_given.Goals as goal
 
 pub returns : goal.returns

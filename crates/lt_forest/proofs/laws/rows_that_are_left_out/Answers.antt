@@ -1,4 +1,4 @@
-use Rattle.lt_forest.proofs.PublicPartLaws.{none_is_left_out, one_is_kept, one_is_left_out, left_out_loosens, left_out_is_freed, left_out_keeps_rows}
+use Rattle.lt_forest.proofs.PublicLaws.{none_is_left_out, one_is_kept, one_is_left_out, left_out_loosens, left_out_is_freed, left_out_keeps_rows}
 use Rattle.lt_forest.proofs.laws.rows_that_are_left_out.Goals as goal
 
 pub returns : goal.returns

@@ -1,4 +1,4 @@
-use Rattle.lt_forest.proofs.PublicPartLaws.{hangs_name_others, held_hangs_name_others, cut_rows_are_named, held_rows_are_named}
+use Rattle.lt_forest.proofs.PublicLaws.{hangs_name_others, held_hangs_name_others, cut_rows_are_named, held_rows_are_named}
 use Rattle.lt_forest.proofs.laws.rows_that_are_named.Goals as goal
 
 pub returns : goal.returns
