@@ -15,4 +15,4 @@ pub mod worked;
 
 pub use add::{append, begin};
 pub use drop::drop_all;
-pub use read::{ChainRead, to_pairs};
+pub use read::{ChainRead, put_chain, to_pairs};

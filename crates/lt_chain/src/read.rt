@@ -23,7 +23,7 @@ pub struct ChainRead {
 }
 
 /// Gives the chain's rows and the anchor back.
-pub(crate) fn put_chain(table: &RowTable, pass: &mut RowPass, tree: u32, rows: Vec<u32>)
+pub fn put_chain(table: &RowTable, pass: &mut RowPass, tree: u32, rows: Vec<u32>)
     requires of { IsPassOf table.now pass.old }
     requires backs { Backs (knows pass.old) (tree ∷ rows.items) }
     ensures of { IsPassOf table.now pass.new × IsSamePass pass.old pass.new }
