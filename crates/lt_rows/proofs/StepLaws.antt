@@ -100,7 +100,7 @@ settled_row_has_image v plan front r row h = planned_is v (new_gaps v plan) plan
 differs : (r : ℕ) (p : RowImage) (ps : List RowImage) → times r (planned_rows (p ∷ ps)) ≡ 0 → r ≢ p.row
 differs r p ps none e = let o : one_if (nat_eq p.row r) ≡ 1 = ap one_if (eq-eqb p.row r (sym e)) in omega arith
 
-regap_else : (trees : ℕ) (xs : List (Option Row)) (ps : List RowImage) (r : ℕ) → times r (planned_rows ps) ≡ 0 → get_or (regap trees xs ps) r None ≡ get_or xs r None
+pub regap_else : (trees : ℕ) (xs : List (Option Row)) (ps : List RowImage) (r : ℕ) → times r (planned_rows ps) ≡ 0 → get_or (regap trees xs ps) r None ≡ get_or xs r None
 regap_else trees xs [] r none = refl
 regap_else trees xs (p ∷ ps) r none =
     regap_else trees (set xs p.row (with_gap (get_or xs p.row None) (gap_from trees 0 xs p.row))) ps r (omega arith)

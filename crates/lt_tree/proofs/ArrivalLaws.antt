@@ -1,5 +1,5 @@
 -- The ends of the way down: where it begins, where it arrives, and what it gives back.
-use Rattle.std.proofs.Common.{◌≡◌, ◌≢◌, inl, inr, ⊎_elim, ◌⊎◌, ℕ, ◌-◌, ◌<◌, List, [], refl, sym, ap, ◌∙◌, arith}
+use Rattle.std.proofs.Common.{◌≡◌, ◌≢◌, inl, inr, ⊎_elim, ◌⊎◌, ℕ, ◌<◌, List, [], refl, sym, ap, ◌∙◌, arith}
 use Rattle.std.specs.Prelude.{Option, Some, None}
 use mathlib.Core.Logic.{dite}
 use native.Mathlib.Decide.{ℕ_discrete}
@@ -17,9 +17,8 @@ use Rattle.lt_rows.proofs.Planned.{held_row}
 use Rattle.lt_tree.specs.States.{OnlyMet, IsPrepared}
 use Rattle.lt_tree.specs.Puttings.{Backs, Puts}
 use Rattle.lt_tree.specs.Descents.{at_anchor, Descends, Child, IsChild, Arrives, Stays}
-use Rattle.lt_tree.proofs.ViewLaws.{met_rows, seized_else, seized_row, met_gathers, put_gathers, only_gathers}
-use Rattle.lt_tree.proofs.DownLaws.{not_held}
-use Rattle.lt_tree.proofs.StepLaws.{has_on, spot_on, put_else, put_differs, put_back, gathers_w, above_held, TakesChild}
+use Rattle.lt_tree.proofs.ViewLaws.{met_rows, met_gathers, put_gathers, only_gathers}
+use Rattle.lt_tree.proofs.StepLaws.{has_on, spot_on, put_else, put_differs, put_back}
 
 none_in : (above : List ℕ) → above ≡ [] → (q : ℕ) → times q above ≡ 0
 none_in above none q = ap (λ (xs : List ℕ). times q xs) none
@@ -74,55 +73,6 @@ backs_here v w u tree asked here link steps above d met put = record {
 
     other : (q : ℕ) → 0 < times q above → q ≢ here.row
     other q more is = let z = d.apart in let same : times q above ≡ times here.row above = ap (λ (n : ℕ). times n above) is in omega arith
-
--- no memory was there to keep the row: it and the child are given back
-module _ {v w : View} {tree : ℕ} {asked : Interval} {here : RowImage} {link steps : ℕ} {above : List ℕ} {child : RowImage}
-    (t : TakesChild v w tree asked here link steps above child) (u u' : View)
-    (put : u ≡ with_row w here.row None) (put' : u' ≡ with_row u (link - 1) None) where
-  held_here : IsHeld v here.row
-  held_here = held_row v here.row t.was.has.0
-
-  differ : here.row ≢ link - 1
-  differ e = not_held v tree asked here link steps above t.was t.in_range t.some here.row held_here e
-
-  there : (row : Row) × Holds w here.row row
-  there = (held_here.0, seized_else (link - 1) v w t.seizes here.row differ ∙ held_here.1)
-
-  there' : (row : Row) × Holds u (link - 1) row
-  there' = let c = seized_row (link - 1) v w t.seizes in (c.0, put_else w u here.row put there (link - 1) (λ e. differ (sym e)) ∙ c.1)
-
-  other : (q : ℕ) → 0 < times q above → q ≢ here.row
-  other q more is = let z = t.was.apart in let same : times q above ≡ times here.row above = ap (λ (n : ℕ). times n above) is in omega arith
-
-  still : (q : ℕ) → 0 < times q above → IsHeld u' q
-  still q more =
-      let h0 = (t.was.kept q more).0 in
-      let h = above_held t q more in (
-        h.0,
-        put_else u u' (link - 1) put' there' q (not_held v tree asked here link steps above t.was t.in_range t.some q h0)
-            ∙ (put_else w u here.row put there q (other q more) ∙ h.1),
-      )
-
-  all : (q : ℕ) → IsHeld u' q → 0 < times q above
-  all q h =
-      let was = put_back u u' (link - 1) put' there' q h.0 h.1 in
-      let was' = put_back w u here.row put there q h.0 was in
-      let ne : q ≢ link - 1 = put_differs u u' (link - 1) put' there' q h in
-      ⊎_elim
-      (λ (is : q ≡ here.row). absurd (put_differs w u here.row put there q (h.0, was) is))
-      (λ (more : 0 < times q above). more)
-      (t.was.held q (h.0, sym (seized_else (link - 1) v w t.seizes q ne) ∙ was'))
-
-  pub backs_both : Backs u' above
-  backs_both = record {
-    keeps = record {
-      held = still;
-      once = t.was.once;
-      gathers = put_gathers (link - 1) u u' there'.0 there'.1 put'
-          (put_gathers here.row w u there.0 there.1 put (gathers_w t));
-    };
-    held_all = all;
-  }
 
 -- the rows above are given back
 module _ (v w : View) (tree : ℕ) (asked : Interval) (here : RowImage) (child : Option RowImage) (above : List ℕ)

@@ -1,23 +1,19 @@
 -- One step of a search on its way down.
-use Rattle.std.proofs.Common.{◌≡◌, ◌≢◌, inl, inr, ◌⊎◌, ℕ, zero, suc, ◌+◌, ◌-◌, ◌<◌, ◌≤◌, Bool, true, false, List, [], ◌∷◌, length, set, get_or, refl, sym, ap, ◌∙◌, subst, arith, true≢false}
+use Rattle.std.proofs.Common.{◌≡◌, ◌≢◌, inl, inr, ◌⊎◌, ℕ, zero, suc, ◌+◌, ◌-◌, ◌<◌, Bool, true, false, List, [], ◌∷◌, length, set, get_or, refl, sym, ap, ◌∙◌, subst, arith, true≢false}
 use Rattle.std.specs.Prelude.{Option, Some, None, not, ◌&&◌}
 use Rattle.lt_ranges.specs.Interval.{Interval, before, overlap}
 use Rattle.lt_ranges.specs.Key.{key_le}
 use Rattle.lt_seq.specs.declared.event.Event.{Event}
-use Rattle.lt_seq.specs.declared.event.Mode.{Mode}
-use Rattle.lt_seq.specs.declared.event.Mode.TheVariants.{Tree as TreeMode, Buffer}
 use Rattle.lt_forest.specs.Counts.{times}
-use Rattle.lt_forest.specs.Bounds.{IsInside}
 use Rattle.lt_forest.specs.Trees.{Node, Nodes}
-use Rattle.lt_forest.specs.Forest.{IsTree}
 use Rattle.lt_forest.specs.Views.{IsIn}
-use Rattle.lt_forest.specs.Links.{Slot, left_of, right_of, row_with, link_in, IsLink, IsLinkOf, Leads, by_link, and_on}
+use Rattle.lt_forest.specs.Links.{Slot, left_of, right_of, row_with, link_in, IsLinkOf, Leads, by_link, and_on}
 use Rattle.lt_forest.proofs.NoWayBack.{placed_links}
 use Rattle.lt_rows.specs.declared.view.View.{View}
 use Rattle.lt_rows.specs.declared.view.Row.{Row}
 use Rattle.lt_rows.specs.declared.view.SeenGap.{SeenGap}
 use Rattle.lt_rows.specs.declared.image.RowImage.{RowImage}
-use Rattle.lt_rows.specs.Nodes.{node_of, mode_of}
+use Rattle.lt_rows.specs.Nodes.{node_of}
 use Rattle.lt_rows.specs.Views.{Holds, IsHeld, row_at, rows_of, has, image_of}
 use Rattle.lt_rows.specs.Gaps.{gap_for}
 use Rattle.lt_rows.specs.Rule.{Stood}
@@ -25,9 +21,9 @@ use Rattle.lt_rows.specs.Woods.{woods}
 use Rattle.lt_rows.specs.Lawful.{shown}
 use Rattle.lt_rows.proofs.Frames.{Some-none}
 use Rattle.lt_rows.proofs.Planned.{row_held, held_row}
-use Rattle.lt_rows.proofs.Lessons.{names_further, none_back, of_anchor, of_gap}
-use Rattle.lt_rows.proofs.Gapped.{gap_at_top, gap_at_left, gap_at_right}
+use Rattle.lt_rows.proofs.Lessons.{none_back}
 use Rattle.lt_tree.specs.Descents.{free_rows, HasGapIn, GoesTo, Spot, at_anchor, at_row, IsAbove, Descends}
+use Rattle.lt_tree.proofs.SpotLaws.{IsGapFor, spot_gap, spot_further}
 
 -- the number of rows not held
 
@@ -65,9 +61,8 @@ module _ (v : View) (tree : ℕ) (asked : Interval) (here : RowImage) (link step
   abbrev r : ℕ
   r = link - 1
 
-  -- the slot with the link
-  abbrev Slotted : Type 0
-  Slotted = (s : Slot) × (row_with s ≡ here.row) × IsLink v.plan.trees st.forest s × (link_in mine s ≡ link)
+  link_r : (x : ℕ) → x ≡ link → x ≡ r + 1
+  link_r x e = omega arith
 
   left_is : link ≡ (node_of here.words).left → link_in mine (left_of here.row) ≡ link
   left_is e = ap (λ (ws : List ℕ). (node_of ws).left) d.has.2 ∙ sym e
@@ -75,21 +70,17 @@ module _ (v : View) (tree : ℕ) (asked : Interval) (here : RowImage) (link step
   right_is : link ≡ (node_of here.words).right → link_in mine (right_of here.row) ≡ link
   right_is e = ap (λ (ws : List ℕ). (node_of ws).right) d.has.2 ∙ sym e
 
-  slot : Spot v tree asked here link → Slotted
-  slot (at_anchor row mode is) = (left_of here.row, refl, of_anchor v log st here.row (omega arith), left_is is)
-  slot (at_row row g held gap t inside more (inl goes)) = (left_of here.row, refl, (of_gap v log st here.row row g held gap).0, left_is goes.1)
-  slot (at_row row g held gap t inside more (inr goes)) = (right_of here.row, refl, (of_gap v log st here.row row g held gap).1, right_is goes.1)
+  here_held : IsHeld v here.row
+  here_held = held_row v here.row d.has.0
+
+  here_image : here_held.0.image ≡ here.words
+  here_image = ap image_of (sym here_held.1) ∙ d.has.2
 
   abbrev Further : Type 0
   Further = (v.plan.trees < r) × (r < rows_of v.plan)
 
   pub further : Further
-  further =
-      let s = slot d.spot in
-      elim (names_further v log st s.0 (subst (IsIn (has v)) (sym s.1) d.has.0) s.2) [
-        | inl z ↦ absurd (some (sym s.3 ∙ z))
-        | inr x ↦ let is = x.1 in let same = s.3 in let more = x.2 in let less = x.3 in (omega arith, omega arith)
-      ]
+  further = spot_further v log st tree lt asked here link r (link_r link refl) here_held here_image d.spot
 
   -- a link of a row with a gap is one of the tree
   abbrev Of : Slot → Type 0
@@ -102,9 +93,6 @@ module _ (v : View) (tree : ℕ) (asked : Interval) (here : RowImage) (link step
   -- what leads to the row at which the search is, leads to the child
   abbrev ToChild : ℕ → Type 0
   ToChild q = Leads mine (λ s. HasGapIn v tree (row_with s)) q r
-
-  link_r : (x : ℕ) → x ≡ link → x ≡ r + 1
-  link_r x e = omega arith
 
   child_below : (row : Row) (g : SeenGap) → Holds v here.row row → row.gap ≡ Some g → g.tree ≡ tree → GoesTo asked (node_of here.words) link → ToChild here.row
   child_below row g held gap t (inl goes) = by_link (left_of here.row) r (row, g, held, gap, t) (link_r _ (left_is goes.1))
@@ -147,48 +135,8 @@ module _ (v : View) (tree : ℕ) (asked : Interval) (here : RowImage) (link step
       go (Some row) is = absurd (not_held r (row, is) refl)
 
   -- the gap in which the child stands
-  abbrev ChildGap : Type 0
-  ChildGap = (g : SeenGap) × (gap_for v r ≡ Some g) × (g.tree ≡ tree) × IsInside g.low g.high asked
-
-  left_now : (row : Row) → Holds v here.row row → link ≡ (node_of here.words).left → (node_of row.image).left ≡ r + 1
-  left_now row held is = ap (λ (x : Option Row). (node_of (image_of x)).left) (sym held) ∙ link_r _ (left_is is)
-
-  right_now : (row : Row) → Holds v here.row row → link ≡ (node_of here.words).right → (node_of row.image).right ≡ r + 1
-  right_now row held is = ap (λ (x : Option Row). (node_of (image_of x)).right) (sym held) ∙ link_r _ (right_is is)
-
-  image_now : (row : Row) → Holds v here.row row → row.image ≡ here.words
-  image_now row held = ap image_of (sym held) ∙ d.has.2
-
-  pub child_gap : ChildGap
-  child_gap = go d.spot
-    where
-      by_mode : (m : Mode) → mode_of here.words ≡ m → IsTree m → here.row ≡ tree → link ≡ (node_of here.words).left → ChildGap
-      by_mode (TreeMode score) em is row left =
-          let h = held_row v here.row d.has.0 in (
-            record { tree = tree; low = None; high = None; score = score },
-            gap_at_top v log st r tree score h.0 lt (subst (λ (n : ℕ). Holds v n h.0) row h.1) (ap mode_of (image_now h.0 h.1) ∙ em) (left_now h.0 h.1 left),
-            refl,
-            (tt, tt),
-          )
-      by_mode (Buffer txn count) em is row left = absurd is
-
-      below : (row : Row) (g : SeenGap) → Holds v here.row row → row.gap ≡ Some g → g.tree ≡ tree → IsInside g.low g.high asked → v.plan.trees ≤ here.row → GoesTo asked (node_of here.words) link → ChildGap
-      below row g held gap t inside le (inl goes) = (
-        record g { high = Some (node_of row.image).range.left },
-        gap_at_left v log st r here.row row g le held gap (left_now row held goes.1),
-        t,
-        (inside.0, ap (λ (ws : List ℕ). before asked (node_of ws).range) (image_now row held) ∙ goes.0),
-      )
-      below row g held gap t inside le (inr goes) = (
-        record g { low = Some (node_of row.image).range.right },
-        gap_at_right v log st r here.row row g le held gap (right_now row held goes.1),
-        t,
-        (ap (λ (ws : List ℕ). before (node_of ws).range asked) (image_now row held) ∙ goes.0, inside.1),
-      )
-
-      go : Spot v tree asked here link → ChildGap
-      go (at_anchor row mode is) = by_mode (mode_of here.words) refl mode row is
-      go (at_row row g held gap t inside more goes) = below row g held gap t inside (omega arith) goes
+  pub child_gap : IsGapFor tree asked (gap_for v r)
+  child_gap = spot_gap v log st tree lt asked here link r (link_r link refl) here_held here_image d.spot
 
 -- where the search goes on
 

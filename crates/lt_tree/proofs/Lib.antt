@@ -15,3 +15,14 @@ pub mod AnchorLaws
 pub mod WritingLaws
 pub mod PoolLaws
 pub mod NewPasses
+pub mod SeenLaws
+pub mod SettlingLaws
+pub mod SpotLaws
+pub mod SettledGaps
+pub mod ImageLaws
+pub mod DeeperLaws
+pub mod TurningLaws
+pub mod EstimateLaws
+pub mod TurnedLaws
+pub mod ShowsLaws
+pub mod PathLaws

@@ -1,14 +1,12 @@
 -- What a step down leaves: the child is taken, and then the parent is put or kept.
-use Rattle.std.proofs.Common.{◌≡◌, ◌≢◌, inl, inr, ⊎_elim, ◌⊎◌, ℕ, ◌+◌, ◌-◌, ◌<◌, ◌≤◌, Bool, true, false, List, [], ◌∷◌, ◌++◌, set, refl, sym, ap, ◌∙◌, subst, arith, get_or-set_same, get_or-set_other, eq-eqb}
-use Rattle.std.specs.Prelude.{Option, Some, None, nat_eq}
+use Rattle.std.proofs.Common.{◌≡◌, ◌≢◌, inl, inr, ◌⊎◌, ℕ, ◌+◌, ◌-◌, ◌<◌, ◌≤◌, Bool, true, false, List, [], set, sym, ap, ◌∙◌, subst, arith, get_or-set_same, get_or-set_other}
+use Rattle.std.specs.Prelude.{Option, Some, None}
 use mathlib.Core.Logic.{dite}
 use native.Mathlib.Decide.{ℕ_discrete}
-use borrow.Author.Tests.{eqb-true}
-use Rattle.lt_ranges.specs.Interval.{Interval, overlap}
+use Rattle.lt_ranges.specs.Interval.{Interval}
 use Rattle.lt_seq.specs.declared.plan.YardPlan.{YardPlan}
 use Rattle.lt_forest.specs.Counts.{one_if, times}
 use Rattle.lt_forest.specs.Links.{Slot, left_of, right_of, row_with, link_in, Leads}
-use Rattle.lt_forest.proofs.SameRows.{times-++}
 use Rattle.lt_rows.specs.declared.view.View.{View}
 use Rattle.lt_rows.specs.declared.view.Row.{Row}
 use Rattle.lt_rows.specs.declared.image.RowImage.{RowImage}
@@ -21,9 +19,10 @@ use Rattle.lt_rows.specs.Teaching.{Teaches}
 use Rattle.lt_rows.proofs.Frames.{Some-none}
 use Rattle.lt_rows.proofs.Planned.{held_row}
 use Rattle.lt_tree.specs.States.{OnlyMet, Seizes, HasWords}
-use Rattle.lt_tree.specs.Descents.{free_rows, HasGapIn, GoesTo, Spot, at_anchor, at_row, IsAbove, Descends, Arrives}
+use Rattle.lt_tree.specs.Descents.{free_rows, HasGapIn, Spot, at_anchor, at_row, Descends}
+use Rattle.lt_tree.specs.Turnings.{HoldsPath}
 use Rattle.lt_rows.proofs.Loops.{held_inside}
-use Rattle.lt_tree.proofs.ViewLaws.{met_rows, seized_else, seized_has, has_loaded, seized_gathers, put_gathers}
+use Rattle.lt_tree.proofs.ViewLaws.{met_rows, seized_else, seized_has, has_loaded, seized_gathers}
 use Rattle.lt_rows.specs.Handles.{IsGathering}
 use Rattle.lt_tree.proofs.DownLaws.{free_take, free_put, leads_map, further, leads_on, not_held, child_free, child_gap}
 
@@ -144,18 +143,8 @@ module _ {v w : View} {tree : ℕ} {asked : Interval} {here : RowImage} {link st
   child_further : w.plan.trees < child.row
   child_further = subst (λ (n : ℕ). w.plan.trees < n) (sym t.row_is) (subst (λ (k : YardPlan). k.trees < link - 1) (sym plan_is) (further v tree asked here link steps above t.was t.in_range t.some).0)
 
-  pub child_spot : (on : ℕ) → GoesTo asked (node_of child.words) on → Spot w tree asked child on
-  child_spot on goes =
-      let g = child_gap v tree asked here link steps above t.was t.in_range t.some in
-      at_row child_row g.0 child_here (met_gap v t.seizes.0 (link - 1) t.seizes.1 ∙ g.1) g.2 g.3 child_further goes
-
   pub apart : child.row ≢ here.row
   apart e = not_held v tree asked here link steps above t.was t.in_range t.some here.row here_held (sym e ∙ t.row_is)
-
-  pub child_put : (u : View) → u ≡ with_row w here.row None → HasWords u (link - 1) child.words
-  child_put u put =
-      let there : (row : Row) × Holds w here.row row = held_row w here.row here_has.0 in
-      subst (λ (n : ℕ). HasWords u n child.words) t.row_is (has_on w u child.row child.words (put_else w u here.row put there child.row apart) child_has)
 
   pub gathers_w : IsGathering w
   gathers_w = seized_gathers (link - 1) v w t.seizes t.was.gathers
@@ -167,131 +156,44 @@ module _ {v w : View} {tree : ℕ} {asked : Interval} {here : RowImage} {link st
   pub above_held : (q : ℕ) → 0 < times q above → IsHeld w q
   above_held q more = let h = (t.was.kept q more).0 in (h.0, held_before q h ∙ h.1)
 
-  -- the search has arrived, as the child overlaps
-  pub arrives_here : overlap (node_of child.words).range asked ≡ true → Arrives w tree asked here (Some child) above
-  arrives_here over = record {
-    link = link;
-    has = here_has;
-    teaches = t.teaches;
-    spot = here_spot;
-    child_is = (let r = t.row_is in let z = t.some in omega arith, child_has, over);
-    held_all = λ q h. ⊎_elim
-        (λ (is : q ≡ child.row). inr (inl is))
-        (λ (o : (q ≡ here.row) ⊎ (0 < times q above)). ⊎_elim
-        (λ (is : q ≡ here.row). inl is)
-        (λ (more : 0 < times q above). inr (inr more))
-        o)
-        (held_then q h);
-    apart = t.was.apart;
-    child_apart = λ q is. ap (λ (n : ℕ). times n above) is ∙ child_not_above;
-    keeps = record { held = above_held; once = t.was.once; gathers = gathers_w };
-  }
-
-  free_w : free_rows w.held + 1 ≡ free_rows v.held
-  free_w =
+  pub taken_free : free_rows w.held + 1 ≡ free_rows v.held
+  taken_free =
       let same : free_rows t.seizes.0.held ≡ free_rows v.held = ap (λ (x : View). free_rows x.held) t.seizes.1.0 in
       let now : free_rows w.held ≡ free_rows (set t.seizes.0.held (link - 1) (Some child_row)) = ap (λ (x : View). free_rows x.held) t.seizes.2.3 in
       let f = free_take t.seizes.0.held (link - 1) child_row (met_rows v t.seizes.0 (link - 1) t.seizes.1 ∙ child_free v tree asked here link steps above t.was t.in_range t.some) t.seizes.2.2 in
       omega arith
 
-  -- the parent is put
-  module _ (u : View) (put : u ≡ with_row w here.row None) (on : ℕ) (goes : GoesTo asked (node_of child.words) on) (more : 0 < steps) where
-    there : (row : Row) × Holds w here.row row
-    there = held_row w here.row here_has.0
+  -- what was held leads to the child
+  same_gap : (q : Slot) → HasGapIn v tree (row_with q) → HasGapIn w tree (row_with q) × (link_in (shown w []) q ≡ link_in (shown v []) q)
+  same_gap (left_of q) h = let e = held_before q (h.0, h.2) in ((h.0, h.1, e ∙ h.2, h.3, h.4), ap (λ (x : Option Row). (node_of (image_of x)).left) e)
+  same_gap (right_of q) h = let e = held_before q (h.0, h.2) in ((h.0, h.1, e ∙ h.2, h.3, h.4), ap (λ (x : Option Row). (node_of (image_of x)).right) e)
 
-    none_above : above ≡ []
-    none_above = t.was.first more
+  leads_now : (q : ℕ) → Leads (shown v []) (λ x. HasGapIn v tree (row_with x)) q (link - 1) → Leads (shown w []) (λ x. HasGapIn w tree (row_with x)) q child.row
+  leads_now q l = subst (Leads (shown w []) (λ x. HasGapIn w tree (row_with x)) q) (sym t.row_is) (leads_map (shown v []) (shown w []) (λ x. HasGapIn v tree (row_with x)) (λ x. HasGapIn w tree (row_with x)) same_gap l)
 
-    pub put_smaller : (steps - 1) + free_rows u.held < steps + free_rows v.held
-    put_smaller = let a = free_w in let b = put_free w u here.row put there in omega arith
+  held_leads : (q : ℕ) → IsHeld w q → q ≢ child.row → (q ≡ tree) ⊎ Leads (shown w []) (λ x. HasGapIn w tree (row_with x)) q child.row
+  held_leads q h ne =
+      let before : IsHeld v q = (h.0, sym (seized_else (link - 1) v w t.seizes q (λ e. ne (e ∙ sym t.row_is))) ∙ h.1) in
+      elim (leads_on v tree asked here link steps above t.was t.in_range t.some q before) [ inl is ↦ inl is | inr l ↦ inr (leads_now q l) ]
 
-    put_held : (q : ℕ) → IsHeld u q → (q ≡ child.row) ⊎ (0 < times q above)
-    put_held q h = elim (held_then q (h.0, put_back w u here.row put there q h.0 h.1)) [
-      | inl is ↦ inl is
-      | inr o ↦ elim o [
-        | inl is ↦ absurd (put_differs w u here.row put there q h is)
-        | inr some' ↦ inr some'
-      ]
-    ]
-
-    pub put_on : Descends u tree asked child on (steps - 1) above
-    put_on = record {
-      has = has_on w u child.row child.words (put_else w u here.row put there child.row apart) child_has;
-      teaches = put_teaches w u here.row put there t.teaches;
-      spot = spot_on w u tree asked child on (put_plan w u here.row put there) (put_else w u here.row put there child.row apart) (child_spot on goes);
-      held = put_held;
-      kept = λ q more'. (let n : times q above ≡ 0 = ap (λ (xs : List ℕ). times q xs) none_above in absurd (omega arith));
-      once = t.was.once;
-      apart = ap (λ (xs : List ℕ). times child.row xs) none_above;
-      first = λ more'. none_above;
-      gathers = put_gathers here.row w u there.0 there.1 put gathers_w;
-    }
-
-  -- the parent is kept
-  module _ (above' : List ℕ) (push : above' ≡ above ++ here.row ∷ []) (on : ℕ) (goes : GoesTo asked (node_of child.words) on) where
-    pub keep_smaller : free_rows w.held < free_rows v.held
-    keep_smaller = let a = free_w in omega arith
-
-    here_once : (q : ℕ) → times q above' ≡ times q above + (one_if (nat_eq here.row q) + 0)
-    here_once q = ap (λ (xs : List ℕ). times q xs) push ∙ times-++ q above (here.row ∷ [])
-
-    one_or : (q : ℕ) → (q ≡ here.row) ⊎ (times q above' ≡ times q above)
-    one_or q = go (nat_eq here.row q) refl
-      where
-        go : (b : Bool) → nat_eq here.row q ≡ b → (q ≡ here.row) ⊎ (times q above' ≡ times q above)
-        go true e = inl (sym (eqb-true here.row q e))
-        go false e = inr (let h = here_once q in let z : one_if (nat_eq here.row q) ≡ 0 = ap one_if e in omega arith)
-
-    was_held : (q : ℕ) → 0 < times q above' → IsHeld v q
-    was_held q more = elim (one_or q) [
-      | inl is ↦ subst (λ (n : ℕ). IsHeld v n) (sym is) here_held
-      | inr same ↦ (t.was.kept q (omega arith)).0
-    ]
-
-    gap_on : (q : Slot) → HasGapIn v tree (row_with q) → HasGapIn w tree (row_with q) × (link_in (shown w []) q ≡ link_in (shown v []) q)
-    gap_on (left_of q) h = let e = held_before q (h.0, h.2) in ((h.0, h.1, e ∙ h.2, h.3, h.4), ap (λ (x : Option Row). (node_of (image_of x)).left) e)
-    gap_on (right_of q) h = let e = held_before q (h.0, h.2) in ((h.0, h.1, e ∙ h.2, h.3, h.4), ap (λ (x : Option Row). (node_of (image_of x)).right) e)
-
-    leads_now : (q : ℕ) → Leads (shown v []) (λ x. HasGapIn v tree (row_with x)) q (link - 1) → Leads (shown w []) (λ x. HasGapIn w tree (row_with x)) q child.row
-    leads_now q l = subst (Leads (shown w []) (λ x. HasGapIn w tree (row_with x)) q) (sym t.row_is) (leads_map (shown v []) (shown w []) (λ x. HasGapIn v tree (row_with x)) (λ x. HasGapIn w tree (row_with x)) gap_on l)
-
-    keep_kept : (q : ℕ) → 0 < times q above' → IsAbove w tree q child.row
-    keep_kept q more =
-        let h = was_held q more in (
-          (h.0, held_before q h ∙ h.1),
-          elim (leads_on v tree asked here link steps above t.was t.in_range t.some q h) [
-            | inl is ↦ inl is
-            | inr l ↦ inr (child_further, leads_now q l)
-          ],
-        )
-
-    keep_once : (q : ℕ) → times q above' ≤ 1
-    keep_once q = elim (one_or q) [
-      | inl is ↦ let a : times q above ≡ 0 = ap (λ (n : ℕ). times n above) is ∙ t.was.apart in let h = here_once q in let o = one_most (nat_eq here.row q) in omega arith
-      | inr same ↦ let o = t.was.once q in omega arith
-    ]
-
-    keep_apart : times child.row above' ≡ 0
-    keep_apart = dite (ℕ_discrete (times child.row above') 0) (λ z. z) (λ ne. absurd (not_held v tree asked here link steps above t.was t.in_range t.some child.row (was_held child.row (omega arith)) t.row_is))
-
-    keep_held : (q : ℕ) → IsHeld w q → (q ≡ child.row) ⊎ (0 < times q above')
-    keep_held q h = elim (held_then q h) [
-      | inl is ↦ inl is
-      | inr o ↦ inr (let e = here_once q in elim o [
-        | inl is ↦ let z : one_if (nat_eq here.row q) ≡ 1 = ap one_if (eq-eqb here.row q (sym is)) in omega arith
-        | inr more ↦ omega arith
-      ])
-    ]
-
-    pub keep_on : Descends w tree asked child on 0 above'
-    keep_on = record {
-      has = child_has;
-      teaches = t.teaches;
-      spot = child_spot on goes;
-      held = keep_held;
-      kept = keep_kept;
-      once = keep_once;
-      apart = keep_apart;
-      first = λ more. absurd (omega arith);
-      gathers = gathers_w;
-    }
+  pub path_taken : HoldsPath w tree asked here child steps above
+  path_taken =
+      let g = child_gap v tree asked here link steps above t.was t.in_range t.some in
+      let is : link ≡ child.row + 1 = (let r = t.row_is in let z = t.some in omega arith) in
+      record {
+        has = here_has;
+        child_has = child_has;
+        teaches = t.teaches;
+        spot = subst (Spot w tree asked here) is here_spot;
+        gap = (child_row, g.0, child_here, met_gap v t.seizes.0 (link - 1) t.seizes.1 ∙ g.1, g.2, g.3);
+        further = child_further;
+        apart = apart;
+        held = held_then;
+        leads = λ z. held_leads;
+        kept = above_held;
+        once = t.was.once;
+        here_above = t.was.apart;
+        child_above = child_not_above;
+        first = t.was.first;
+        gathers = gathers_w;
+      }

@@ -1,5 +1,5 @@
 -- A plan's images count, and then they are stored.
-use Rattle.std.proofs.Common.{◌≡◌, ◌≢◌, ℕ, List, [], ◌∷◌, get_or, refl, sym, ap, ◌∙◌, subst}
+use Rattle.std.proofs.Common.{◌≡◌, ◌≢◌, ℕ, List, [], ◌∷◌, length, length-set, get_or, refl, sym, ap, ◌∙◌, subst}
 use Rattle.std.specs.Prelude.{Option, Some, None}
 use mathlib.Core.Logic.{dite}
 use native.Mathlib.Decide.{ℕ_discrete}
@@ -8,7 +8,7 @@ use Rattle.lt_rows.specs.declared.view.View.{View}
 use Rattle.lt_rows.specs.declared.view.Row.{Row}
 use Rattle.lt_rows.specs.declared.view.SeenGap.{SeenGap}
 use Rattle.lt_rows.specs.declared.image.RowImage.{RowImage}
-use Rattle.lt_rows.specs.Views.{Holds, IsHeld, row_at, has, is_some, words_of, images, image_of, with_row, written, AllHeld}
+use Rattle.lt_rows.specs.Views.{Holds, IsHeld, row_at, has, is_some, words_of, images, image_of, gap_of, with_row, written, AllHeld}
 use Rattle.lt_rows.specs.Views.{planned, planned_contents, changed, committed, settled, set_gaps}
 use Rattle.lt_rows.specs.Gaps.{new_gaps}
 use Rattle.lt_rows.specs.Handles.{IsGathering}
@@ -23,8 +23,10 @@ use Rattle.lt_tree.proofs.ViewLaws.{held_on, held_set}
 pub writes_none : (v : View) (plan : List RowImage) → AllHeld v.held plan → WritesSome v v plan plan
 writes_none v plan all = record {
   only = refl;
+  long = refl;
   same = λ q. refl;
   images_stay = λ q. refl;
+  gaps_stay = λ q. refl;
   words = λ q h. refl;
   held = all;
 }
@@ -60,6 +62,9 @@ module _ (v w : View) (plan : List RowImage) (p : RowImage) (ps : List RowImage)
     same_image : (q : ℕ) → images u q ≡ images w q
     same_image q = by_row (λ x y. image_of x ≡ image_of y) (λ x. refl) refl q
 
+    same_gap : (q : ℕ) → gap_of (row_at u q) ≡ gap_of (row_at w q)
+    same_gap q = by_row (λ x y. gap_of x ≡ gap_of y) (λ x. refl) refl q
+
     words_now : (q : ℕ) → words_in u q ≡ changed (words_in w) p.row p.words q
     words_now q = dite (ℕ_discrete q p.row)
         (λ is. ap (λ (n : ℕ). words_in u n) is ∙ (ap words_of stored.0 ∙ sym (changed_at (words_in w) p.row p.words q is)))
@@ -68,8 +73,10 @@ module _ (v w : View) (plan : List RowImage) (p : RowImage) (ps : List RowImage)
     pub writes_one : WritesSome v u plan ps
     writes_one = record {
       only = held_on v w u s.only (held_set w u _ e);
+      long = ap (λ (x : View). length x.held) e ∙ (length-set w.held p.row (written (row_at w p.row) p.words) ∙ s.long);
       same = λ q. same_has q ∙ s.same q;
       images_stay = λ q. same_image q ∙ s.images_stay q;
+      gaps_stay = λ q. same_gap q ∙ s.gaps_stay q;
       words = λ q h. planned_same (words_in u) (changed (words_in w) p.row p.words) ps q (words_now q) ∙ s.words q h;
       held = all_same w u same_has ps s.held.1;
     }
@@ -77,8 +84,10 @@ module _ (v w : View) (plan : List RowImage) (p : RowImage) (ps : List RowImage)
 pub writes_all : (v w : View) (plan left : List RowImage) → left ≡ [] → WritesSome v w plan left → Writes v w plan
 writes_all v w plan left none s = record {
   only = s.only;
+  long = s.long;
   same = s.same;
   images_stay = s.images_stay;
+  gaps_stay = s.gaps_stay;
   words = λ q h. ap (λ (l : List RowImage). planned_contents (words_in w) l q) (sym none) ∙ s.words q h;
 }
 
@@ -117,7 +126,7 @@ module _ (v u w : View) (plan : List RowImage) (p : IsPlanned v u plan) (s : Wri
   back : (q : ℕ) → has v q ≡ has w q
   back q = sym (s.same q ∙ p.same q)
 
-  gathers_then : IsGathering v → IsGathering w
+  pub gathers_then : IsGathering v → IsGathering w
   gathers_then g q row h =
       let was = held_same w v back q (row, h) in
       let planned_row = held_same v u p.same q was in

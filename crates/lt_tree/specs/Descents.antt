@@ -41,6 +41,10 @@ pub data Spot (v : View) (tree : ℕ) (asked : Interval) (here : RowImage) (link
   at_row : (row : Row) (g : SeenGap) → Holds v here.row row → row.gap ≡ Some g → g.tree ≡ tree → IsInside g.low g.high asked
       → v.plan.trees < here.row → GoesTo asked (node_of here.words) link → Spot v tree asked here link
 
+-- an anchor with the same mode, below which nothing hangs only where nothing did
+abbrev pub ShowsAs : List ℕ → List ℕ → Type 0
+ShowsAs was is = (mode_of is ≡ mode_of was) × ((node_of is).left ≡ 0 → (node_of was).left ≡ 0)
+
 -- a kept row: it leads to the one at which the search is
 abbrev pub IsAbove : View → ℕ → ℕ → ℕ → Type 0
 IsAbove v tree q here =

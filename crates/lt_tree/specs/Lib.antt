@@ -6,3 +6,5 @@ pub mod LawsOfParts
 pub mod Anchors
 pub mod Pools
 pub mod Writings
+pub mod Settlings
+pub mod Turnings

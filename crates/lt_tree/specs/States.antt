@@ -1,5 +1,8 @@
 -- What the states of a search say of the pass's view.
-use Rattle.std.specs.Prelude.{◌≡◌, ◌≢◌, ℕ, ◌+◌, ◌<◌, ◌≤◌, List, None}
+use Rattle.std.specs.Prelude.{◌≡◌, ◌≢◌, ℕ, ◌+◌, ◌<◌, ◌≤◌, List, [], ◌++◌, None}
+use Rattle.lt_seq.specs.declared.event.Event.{Event}
+use Rattle.lt_seq.specs.History.{IsLegal}
+use Rattle.lt_seq.specs.SeqPass.{plain}
 use Rattle.lt_seq.specs.declared.fault.Fault.{Fault}
 use Rattle.lt_seq.specs.declared.fault.Fault.TheVariants.{Busy, OutOfMemory, HistoryFull, OutOfLocks}
 use Rattle.lt_forest.specs.Views.{IsIn}
@@ -8,6 +11,7 @@ use Rattle.lt_rows.specs.declared.image.RowImage.{RowImage}
 use Rattle.lt_rows.specs.declared.take.Take.{Take}
 use Rattle.lt_rows.specs.declared.take.Take.TheVariants.{Taken, HeldBy}
 use Rattle.lt_rows.specs.Views.{IsHeld, row_at, has, words_of, images}
+use Rattle.lt_rows.specs.Rule.{IsOfOthers}
 use Rattle.lt_rows.specs.Handles.{Tries}
 
 -- the view holds no row
@@ -29,6 +33,24 @@ OnlyHeld v w = w ≡ record v { held = w.held }
 -- only what it holds and what it met may differ: it has looked and committed nothing meanwhile
 abbrev pub OnlyRows : View → View → Type 0
 OnlyRows v w = (w ≡ record v { held = w.held; met = w.met; met_row = w.met_row; met_mark = w.met_mark }) × (v.met ≤ w.met)
+
+-- Only what it holds, what it met, and what it has seen of others' events may differ: it has committed nothing meanwhile.
+pub record SeesOn (v w : View) : Type 0 where
+  pub rest : List Event
+  pub view : w ≡ record v {
+    held = w.held;
+    front = v.front ++ rest;
+    all = w.all;
+    learned = w.learned;
+    met = w.met;
+    met_row = w.met_row;
+    met_mark = w.met_mark;
+  }
+  pub own : IsOfOthers v rest
+  -- with all the rights nothing was new to it
+  pub alone : v.rights ≡ v.plan.passes → rest ≡ []
+  pub legal : IsLegal (plain v.plan) v.front → IsLegal (plain v.plan) w.front
+  pub met : v.met ≤ w.met
 
 -- the rows that it held it still holds as they were
 abbrev pub KeepsRows : View → View → Type 0

@@ -1,5 +1,5 @@
 //! The way down, hand over hand.
-ghost use Rattle.std.specs.Prelude.{◌≡◌, ◌<◌, IfOk, IfErr, [], false};
+ghost use Rattle.std.specs.Prelude.{◌≡◌, ◌≢◌, ◌+◌, ◌<◌, ℕ, List, IfOk, IfErr, [], false};
 ghost use Rattle.lt_ranges.specs.Interval.{overlap};
 ghost use Rattle.lt_seq.specs.Yard.{IsPlan};
 ghost use Rattle.lt_forest.specs.Forest.{IsTree};
@@ -7,12 +7,14 @@ ghost use Rattle.lt_rows.specs.Nodes.{mode_of, node_of};
 ghost use Rattle.lt_rows.specs.Views.{rows_of};
 ghost use Rattle.lt_rows.specs.Teaching.{Teaches};
 ghost use Rattle.lt_rows.specs.Handles.{knows, IsPassOf, IsSamePass};
-ghost use Rattle.lt_tree.specs.States.{HoldsNone, OnlyRows, IsPrepared, IsRefused};
+ghost use Rattle.lt_tree.specs.States.{HoldsNone, OnlyMet, SeesOn, IsPrepared, IsRefused};
 ghost use Rattle.lt_tree.specs.Puttings.{Backs};
-ghost use Rattle.lt_tree.specs.Descents.{Arrives, Stays, GoesTo};
+ghost use Rattle.lt_tree.specs.Descents.{Arrives, Descends, Stays, ShowsAs, GoesTo, free_rows};
+ghost use Rattle.lt_tree.specs.Turnings.{HoldsPath, StaysAs};
 
 use crate::put::put_all;
 use crate::seize::seize;
+use crate::turning::turn_below;
 use lt_ranges::KeyRange;
 use lt_rows::{RowImage, RowPass, RowTable, Take};
 use lt_seq::{Fault, YardPlan};
@@ -45,6 +47,44 @@ fn next_link(here: &RowImage, range: &KeyRange, asked: &KeyRange) -> u64
     }
 }
 
+/// Takes the row on a link of the held one. Where steps are left, the two are measured and turned. The answer has the row that stays
+/// held and its child. `Busy` is the one error: the row was met held by another pass.
+fn take_child(
+    table: &RowTable,
+    pass: &mut RowPass,
+    here: &RowImage,
+    link: u64,
+    tree: u32,
+    asked: &KeyRange,
+    spins: u32,
+    steps: usize,
+) -> Result<(RowImage, RowImage), Fault>
+    requires of { IsPassOf table.now pass.old }
+    requires right { 0 < pass.old.rights }
+    requires tree { tree < table.now.plan.trees }
+    requires some { link ≢ 0 }
+    requires descends { (above : List ℕ) × Descends (knows pass.old) tree asked.now here.now link steps above }
+    ensures of { IsPassOf table.now pass.new × IsSamePass pass.old pass.new }
+    ensures sees { SeesOn (knows pass.old) (knows pass.new) }
+    ensures path { IfOk result (λ r. (above : List ℕ) → Descends (knows pass.old) tree asked.now here.now link steps above
+        → HoldsPath (knows pass.new) tree asked.now r.0 r.1 steps above) }
+    ensures stays { IfOk result (λ r. StaysAs tree here.now r.0) }
+    ensures free { IfOk result (λ _. free_rows (knows pass.new).held + 1 ≡ free_rows (knows pass.old).held) }
+    ensures met { IfErr result (λ _. OnlyMet (knows pass.old) (knows pass.new)) }
+    ensures refused { IfErr result (λ fault. IsRefused (knows pass.old) (knows pass.new) fault) }
+{
+    let row = (link - 1) as u32;
+    match seize(table, pass, row, spins) {
+        Take::Taken => {}
+        Take::HeldBy(holder) => return Err(Fault::Busy { row, holder }),
+    }
+    let child = table.load_row(pass, row);
+    if steps == 0 {
+        return Ok((*here, child));
+    }
+    Ok(turn_below(table, pass, tree, asked, here, &child))
+}
+
 /// Goes down. Each child is taken before its parent is put. After as many steps as the table has rows the parents are kept, so
 /// that the search ends whatever other passes do; their numbers go to `above`.
 fn go_down(
@@ -62,8 +102,9 @@ fn go_down(
     requires is_tree { IsTree (mode_of anchor.now.words) }
     requires none { above.old.items ≡ [] }
     ensures of { IsPassOf table.now pass.new × IsSamePass pass.old pass.new }
-    ensures only { OnlyRows (knows pass.old) (knows pass.new) }
+    ensures only { SeesOn (knows pass.old) (knows pass.new) }
     ensures arrives { IfOk result (λ s. Arrives (knows pass.new) anchor.now.row asked.now s.here s.child above.new.items) }
+    ensures anchor { IfOk result (λ s. s.here.row ≡ anchor.now.row → ShowsAs anchor.now.words s.here.words) }
     ensures backs { IfErr result (λ _. Backs (knows pass.new) above.new.items) }
     ensures refused { IfErr result (λ fault. IsRefused (knows pass.old) (knows pass.new) fault) }
 {
@@ -71,26 +112,26 @@ fn go_down(
     let mut link = here.left();
     let mut steps = budget(table.plan());
     while link != 0 {
-        let row = (link - 1) as u32;
-        match seize(table, pass, row, spins) {
-            Take::Taken => {}
-            Take::HeldBy(holder) => {
+        let (stays, child) = match take_child(
+            table, pass, &here, link, anchor.row, asked, spins, steps,
+        ) {
+            Ok(both) => both,
+            Err(fault) => {
                 table.put(pass, here.row);
-                return Err(Fault::Busy { row, holder });
+                return Err(fault);
             }
-        }
-        let child = table.load_row(pass, row);
+        };
         let range = child.range();
         if range.overlaps(asked) {
             let child = Some(child);
-            return Ok(Stop { here, child });
+            return Ok(Stop { here: stays, child });
         }
         if steps > 0 {
             steps -= 1;
-            table.put(pass, here.row);
-        } else if above.push(here.row).is_err() {
-            table.put(pass, here.row);
-            table.put(pass, row);
+            table.put(pass, stays.row);
+        } else if above.push(stays.row).is_err() {
+            table.put(pass, stays.row);
+            table.put(pass, child.row);
             return Err(Fault::OutOfMemory);
         }
         link = next_link(&child, &range, asked);
@@ -119,8 +160,9 @@ pub fn descend(
     requires prepared { IsPrepared (knows pass.old) anchor.now.row anchor.now × Teaches (knows pass.old) }
     requires is_tree { IsTree (mode_of anchor.now.words) }
     ensures of { IsPassOf table.now pass.new × IsSamePass pass.old pass.new }
-    ensures only { OnlyRows (knows pass.old) (knows pass.new) }
+    ensures only { SeesOn (knows pass.old) (knows pass.new) }
     ensures stays { IfOk result (λ s. Stays (knows pass.new) anchor.now.row asked.now s.here s.child) }
+    ensures anchor { IfOk result (λ s. s.here.row ≡ anchor.now.row → ShowsAs anchor.now.words s.here.words) }
     ensures none { IfErr result (λ _. HoldsNone (knows pass.new)) }
     ensures refused { IfErr result (λ fault. IsRefused (knows pass.old) (knows pass.new) fault) }
 {

@@ -14,8 +14,8 @@ use crate::put::put_held;
 use lt_rows::{RowImage, RowPass, RowTable};
 use lt_seq::Event;
 
-// Stores the images of a plan.
-fn write_all(table: &RowTable, pass: &mut RowPass, plan: &[RowImage])
+/// Stores the images of a plan.
+pub fn write_all(table: &RowTable, pass: &mut RowPass, plan: &[RowImage])
     requires of { IsPassOf table.now pass.old }
     requires held { AllHeld (knows pass.old).held plan.now }
     ensures of { IsPassOf table.now pass.new × IsSamePass pass.old pass.new }

@@ -3,6 +3,7 @@
 #![tactic(auto)]
 
 mod descent;
+mod estimates;
 mod finish;
 pub mod laws;
 mod locked;
@@ -11,9 +12,12 @@ mod pool;
 mod prepare;
 mod put;
 mod seize;
+mod settling;
+mod turning;
 mod widen;
 
 pub use descent::{Stop, descend};
+pub use finish::write_all;
 pub use locked::Locked;
 pub use pool::PoolRows;
 pub use prepare::{Anchor, Prepared, try_prepare};

@@ -4,10 +4,10 @@ ghost use Rattle.std.specs.Prelude.{vec_len, vec_capacity};
 ghost use Rattle.lt_ranges.specs.Interval.{IsInterval};
 ghost use Rattle.lt_forest.specs.Forest.{IsTree};
 ghost use Rattle.lt_rows.specs.Nodes.{mode_of};
-ghost use Rattle.lt_rows.specs.Views.{IsHeld, row_at, words_of};
+ghost use Rattle.lt_rows.specs.Views.{IsHeld, images, row_at, words_of};
 ghost use Rattle.lt_rows.specs.Handles.{knows, IsPassOf, IsSamePass};
-ghost use Rattle.lt_tree.specs.States.{HoldsNone, OnlyHeld, OnlyRows, KeepsRows, IsRefused};
-ghost use Rattle.lt_tree.specs.Descents.{Stays, IsLast, free_rows};
+ghost use Rattle.lt_tree.specs.States.{HoldsNone, OnlyHeld, OnlyRows, SeesOn, KeepsRows, IsRefused};
+ghost use Rattle.lt_tree.specs.Descents.{Stays, ShowsAs, IsLast, free_rows};
 ghost use Rattle.lt_tree.specs.Gathers.{IsLocked, IsLockedWith, IsClosed, PlacedAt};
 ghost use Rattle.lt_tree.specs.Pools.{pool_rows};
 ghost use Rattle.lt_tree.specs.declared.pool.PoolRows.TheVariants.{Nothing};
@@ -91,6 +91,7 @@ fn gather_below(
     ensures locked { IfOk result (λ part.
         IsLocked (knows pass.new) tree asked.now stop.now.here.row part.rows.items part.hangs.items) }
     ensures last { IfOk result (λ _. IsLast (knows pass.new) tree asked.now stop.now.here.row) }
+    ensures kept { IfOk result (λ _. KeepsRows (knows pass.old) (knows pass.new)) }
     ensures closed { IfOk result (λ part. IsClosed asked.now part.rows.items part.hangs.items) }
     ensures none { IfErr result (λ _. HoldsNone (knows pass.new)) }
     ensures refused { IfErr result (λ fault. IsRefused (knows pass.old) (knows pass.new) fault) }
@@ -109,15 +110,17 @@ impl<'a> Prepared<'a> {
     /// memory. The pass that is handed back holds no row.
     pub fn acquire(self, alloc: Global, asked: &KeyRange) -> Result<Locked<'a>, (RowPass, Fault)>
         requires tree_mode { IsTree (mode_of self.image.words) }
-        ensures same { IfOk result (λ l. IsSamePass self.entry.pass l.pass × OnlyRows (knows self.entry.pass) (knows l.pass)) }
+        ensures same { IfOk result (λ l. IsSamePass self.entry.pass l.pass × SeesOn (knows self.entry.pass) (knows l.pass)) }
         ensures kept { IfOk result (λ l. (l.table.now ≡ self.entry.table.now) × (l.tree ≡ self.entry.tree) × (l.asked ≡ asked.now)
             × (l.pool ≡ Nothing)) }
         ensures locked { IfOk result (λ l. IsLocked (knows l.pass) l.tree l.asked l.held l.part.rows.items l.part.hangs.items) }
         ensures last { IfOk result (λ l. IsLast (knows l.pass) l.tree l.asked l.held) }
+        ensures anchor { IfOk result (λ l. l.held ≡ self.entry.tree
+            → ShowsAs self.entry.image.words (images (knows l.pass) l.tree)) }
         ensures closed { IfOk result (λ l. IsClosed l.asked l.part.rows.items l.part.hangs.items) }
         ensures handed { IfErr result (λ r. IsPassOf self.entry.table.now r.0 × IsSamePass self.entry.pass r.0) }
         ensures none { IfErr result (λ r. HoldsNone (knows r.0)) }
-        ensures only { IfErr result (λ r. OnlyRows (knows self.entry.pass) (knows r.0)) }
+        ensures only { IfErr result (λ r. SeesOn (knows self.entry.pass) (knows r.0)) }
         ensures refused { IfErr result (λ r. IsRefused (knows self.entry.pass) (knows r.0) r.1) }
     {
         let Ok(part) = empty_part(alloc) else {

@@ -1,12 +1,14 @@
-//! Searches of an empty tree, on one thread.
+//! Searches of an empty tree, on one thread, and rows that are turned.
 ghost use Rattle.std.specs.Prelude.{◌≡◌, IfOk, IfSome, true};
 ghost use Rattle.lt_seq.specs.Yard.{IsPlan};
+ghost use Rattle.lt_rows.specs.Nodes.{node_of};
 ghost use Rattle.lt_rows.specs.Handles.{knows, IsPassOf, IsSamePass};
 ghost use Rattle.lt_tree.specs.States.{HoldsNone};
 
+use crate::estimates::{Side, deeper_side, measure, re_estimate, relink, turn};
 use crate::prepare::try_prepare;
 use lt_ranges::KeyRange;
-use lt_rows::{RowPass, RowTable};
+use lt_rows::{RowImage, RowPass, RowTable};
 use lt_seq::{Fault, YardPlan};
 use std::alloc::{AllocError, Global};
 use std::test::Fail;
@@ -175,4 +177,56 @@ fn a_licensed_search_takes_the_pools_first_row(rt: HostRuntime) -> Result<(), Fa
     assert!(rt; kept.image(row).left() == 5);
     let _one = kept.release();
     Ok(())
+}
+
+/// A row with these links and estimates.
+fn image(row: u32, links: (u32, u32), estimates: (u64, u64)) -> RowImage
+    ensures row { result.row ≡ row }
+    ensures links { ((node_of result.words).left ≡ links.0) × ((node_of result.words).right ≡ links.1) }
+{
+    let bare = RowImage {
+        row,
+        words: [0; 21],
+    };
+    let linked = relink(relink(bare, Side::Left, links.0), Side::Right, links.1);
+    let measured = re_estimate(&linked, Side::Left, estimates.0);
+    re_estimate(&measured, Side::Right, estimates.1)
+}
+
+#[test]
+fn a_row_is_turned_with_its_left_child(rt: HostRuntime) {
+    let row = image(6, (6, 0), (3, 0));
+    let child = image(5, (5, 8), (2, 1));
+    assert!(rt; matches!(deeper_side(&row), Some(Side::Left)));
+    let turned = turn(&row, &child, Side::Left);
+    assert!(rt; turned.upper.row == 5 && turned.lower.row == 6);
+    assert!(rt; turned.upper.words[17] == 5 && turned.upper.words[18] == 7);
+    assert!(rt; turned.lower.words[17] == 8 && turned.lower.words[18] == 0);
+    assert!(rt; turned.upper.words[19] == 2 && turned.upper.words[20] == 2);
+    assert!(rt; turned.lower.words[19] == 1 && turned.lower.words[20] == 0);
+    assert!(rt; deeper_side(&turned.upper).is_none());
+}
+
+#[test]
+fn a_row_is_turned_with_its_right_child(rt: HostRuntime) {
+    let row = image(4, (0, 6), (0, 2));
+    let child = image(5, (0, 7), (0, 1));
+    assert!(rt; matches!(deeper_side(&row), Some(Side::Right)));
+    let turned = turn(&row, &child, Side::Right);
+    assert!(rt; turned.upper.words[17] == 5 && turned.upper.words[18] == 7);
+    assert!(rt; turned.lower.words[17] == 0 && turned.lower.words[18] == 0);
+    assert!(rt; turned.upper.words[19] == 1 && turned.upper.words[20] == 1);
+    assert!(rt; turned.lower.words[19] == 0 && turned.lower.words[20] == 0);
+}
+
+#[test]
+fn a_row_is_measured_by_its_child_and_an_anchor_is_not(rt: HostRuntime) {
+    let row = image(6, (6, 0), (0, 0));
+    let child = image(5, (5, 8), (2, 1));
+    match measure(1, &row, &child) {
+        Some(now) => assert!(rt; now.words[19] == 3 && now.words[20] == 0),
+        None => assert!(rt; false, "the row has the estimate"),
+    }
+    assert!(rt; measure(6, &row, &child).is_none());
+    assert!(rt; measure(1, &image(6, (6, 0), (3, 7)), &child).is_none());
 }

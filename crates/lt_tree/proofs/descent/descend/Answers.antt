@@ -1,12 +1,13 @@
 use Rattle.lt_rows.specs.Handles.{knows}
-use Rattle.lt_tree.proofs.ViewLaws.{refused_held, rows_held, rows_on}
+use Rattle.lt_tree.proofs.ViewLaws.{refused_held, rows_held}
+use Rattle.lt_tree.proofs.SeenLaws.{seen_then}
 use Rattle.lt_tree.proofs.PuttingLaws.{backs_none}
 use Rattle.lt_tree.proofs.ArrivalLaws.{stays_after}
 use Rattle.lt_tree.proofs.descent.descend.Goals as goal
 
 pub returns-in-Ok-clause-only : goal.returns-in-Ok-clause-only
 returns-in-Ok-clause-only c =
-    rows_on (knows c.args.pass.now) (knows c.go_down.new.pass) (knows c.put_all.new.pass) c.in-Ok.ensures.only
+    seen_then (knows c.args.pass.now) (knows c.go_down.new.pass) (knows c.put_all.new.pass) c.in-Ok.ensures.only
     (rows_held (knows c.go_down.new.pass) (knows c.put_all.new.pass) c.put_all.ensures.put.only)
 
 pub returns-in-Ok-clause-stays : goal.returns-in-Ok-clause-stays
@@ -16,7 +17,7 @@ returns-in-Ok-clause-stays c =
 
 pub returns-in-Err-clause-only : goal.returns-in-Err-clause-only
 returns-in-Err-clause-only c =
-    rows_on (knows c.args.pass.now) (knows c.go_down.new.pass) (knows c.put_all-in-Err.new.pass) c.in-Err.ensures.only
+    seen_then (knows c.args.pass.now) (knows c.go_down.new.pass) (knows c.put_all-in-Err.new.pass) c.in-Err.ensures.only
     (rows_held (knows c.go_down.new.pass) (knows c.put_all-in-Err.new.pass) c.put_all-in-Err.ensures.put.only)
 
 pub returns-in-Err-clause-refused : goal.returns-in-Err-clause-refused
