@@ -1,11 +1,11 @@
 mod ChainRows
-mod HoldingLaws
+pub mod HoldingLaws
 mod FrontLaws
 mod ImageLaws
 mod AddLaws
 mod WalkLaws
 mod PairLaws
-mod ReadLaws
+pub mod ReadLaws
 pub mod DropLaws
 mod HandingLaws
 mod WorkedLaws

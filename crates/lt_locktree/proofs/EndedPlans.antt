@@ -127,7 +127,7 @@ module _ (v : View) (tree : ℕ) (asked : Interval) (anchor : RowImage) (score :
 kept_held : (v : View) (rows : List ℕ) → Keeps v rows → AllHeld (IsIn (has v)) rows
 kept_held v rows k q some = let r = k.held q some in row_held v q r.0 r.1
 
-loaded_link : (v : View) (rows : List ℕ) (q : ℕ) (image : RowImage) → Keeps v rows → 0 < times q rows → IsLoaded v q image
+pub loaded_link : (v : View) (rows : List ℕ) (q : ℕ) (image : RowImage) → Keeps v rows → 0 < times q rows → IsLoaded v q image
     → (shown v [] q).left ≡ slice_index image.words 17
 loaded_link v rows q image k some loaded =
     let r = k.held q some in

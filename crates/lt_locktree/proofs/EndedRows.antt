@@ -1,16 +1,14 @@
 -- The pairs after a buffer's end, in its rows.
-use Rattle.std.proofs.Common.{◌≡◌, ℕ, zero, suc, ◌+◌, ◌<◌, ◌≤◌, List, [], ◌∷◌, ◌++◌, map, length, take, drop, get_or, sym, refl, ap, ◌∙◌, arith}
+use Rattle.std.proofs.Common.{◌≡◌, ℕ, zero, suc, ◌+◌, ◌<◌, ◌≤◌, List, [], ◌∷◌, ◌++◌, length, take, drop, get_or, sym, refl, ap, ◌∙◌, arith}
 use Rattle.std.specs.Prelude.{reverse}
-use Rattle.std.proofs.lemmas.List.{length-reverse, length-take-le, length-map, take_more, take_all}
-use Rattle.lt_seq.specs.declared.event.Held.{Held}
+use Rattle.std.proofs.lemmas.List.{length-reverse, length-take-le, take_more, take_all}
 use Rattle.lt_seq.specs.declared.event.Pair.{Pair}
 use Rattle.lt_seq.proofs.TableLaws.{length-granted}
 use Rattle.lt_forest.specs.declared.part.PartRow.{PartRow}
 use Rattle.lt_forest.specs.Counts.{times}
 use Rattle.lt_forest.specs.Forest.{folded}
 use Rattle.lt_forest.specs.Parts.{numbers}
-use Rattle.lt_forest.proofs.PairLists.{map_app}
-use Rattle.lt_locktree.specs.EndingRows.{stood_in, held_pair, AllPairsStand, HeldPairsAreRead, ChainIsEnough, FirstRowsTakeOver, VacantRowTakesOver}
+use Rattle.lt_locktree.specs.EndingRows.{stood_in, AllPairsStand, HeldPairsAreRead, ChainIsEnough, FirstRowsTakeOver, VacantRowTakesOver}
 use Rattle.lt_locktree.proofs.MergedPlans.{times_reversed}
 use Rattle.lt_locktree.proofs.GrantedRuns.{length-numbers}
 
@@ -76,29 +74,25 @@ stood_more (y ∷ rows) [] r p e = absurd (omega (arith, e))
 stood_more (y ∷ rows) (x ∷ pairs) r p e =
     ap (λ (xs : List PartRow). record { row = y; owner = x.owner; range = x.range } ∷ xs) (stood_more rows pairs r p (omega (arith, e)))
 
-pub none_stood : (rows : List ℕ) (pairs : List Held) (stood : List PartRow) → stood ≡ []
-    → stood ≡ stood_in (take 0 rows) (map held_pair (take 0 pairs))
+pub none_stood : (rows : List ℕ) (pairs : List Pair) (stood : List PartRow) → stood ≡ [] → stood ≡ stood_in (take 0 rows) (take 0 pairs)
 none_stood [] [] stood e = e
 none_stood [] (h ∷ pairs) stood e = e
 none_stood (r ∷ rows) [] stood e = e
 none_stood (r ∷ rows) (h ∷ pairs) stood e = e
 
-pub stood_next : (rows : List ℕ) (pairs : List Held) (stood new : List PartRow) (i : ℕ) (h : Held) → i < length pairs
-    → length pairs ≤ length rows → stood ≡ stood_in (take i rows) (map held_pair (take i pairs)) → h ≡ get_or pairs i h
-    → new ≡ stood ++ record { row = get_or rows i 0; owner = h.owner; range = h.range } ∷ []
-    → new ≡ stood_in (take (i + 1) rows) (map held_pair (take (i + 1) pairs))
-stood_next rows pairs stood new i h lt enough so_far is new_is =
-    let one : List PartRow = record { row = get_or rows i 0; owner = h.owner; range = h.range } ∷ [] in
+pub stood_next : (rows : List ℕ) (pairs : List Pair) (stood new : List PartRow) (i : ℕ) (p : Pair) → i < length pairs
+    → length pairs ≤ length rows → stood ≡ stood_in (take i rows) (take i pairs) → p ≡ get_or pairs i p
+    → new ≡ stood ++ record { row = get_or rows i 0; owner = p.owner; range = p.range } ∷ []
+    → new ≡ stood_in (take (i + 1) rows) (take (i + 1) pairs)
+stood_next rows pairs stood new i p lt enough so_far is new_is =
+    let one : List PartRow = record { row = get_or rows i 0; owner = p.owner; range = p.range } ∷ [] in
     let more_rows : take (i + 1) rows ≡ take i rows ++ get_or rows i 0 ∷ [] = take_more rows i 0 (omega arith) in
-    let more_pairs : take (i + 1) pairs ≡ take i pairs ++ h ∷ [] =
-    take_more pairs i h lt ∙ ap (λ (x : Held). take i pairs ++ x ∷ []) (sym is) in
-    let more : map held_pair (take (i + 1) pairs) ≡ map held_pair (take i pairs) ++ held_pair h ∷ [] =
-    ap (map held_pair) more_pairs ∙ map_app held_pair (take i pairs) (h ∷ []) in
-    let long : length (take i rows) ≡ length (map held_pair (take i pairs)) =
-    length-take-le i rows (omega arith) ∙ (sym (length-take-le i pairs (omega arith)) ∙ sym (length-map (take i pairs) held_pair)) in
+    let more_pairs : take (i + 1) pairs ≡ take i pairs ++ p ∷ [] =
+    take_more pairs i p lt ∙ ap (λ (x : Pair). take i pairs ++ x ∷ []) (sym is) in
+    let long : length (take i rows) ≡ length (take i pairs) =
+    length-take-le i rows (omega arith) ∙ sym (length-take-le i pairs (omega arith)) in
     new_is ∙ (ap (λ (xs : List PartRow). xs ++ one) so_far
-    ∙ (sym (stood_more (take i rows) (map held_pair (take i pairs)) (get_or rows i 0) (held_pair h) long)
-    ∙ sym (λ j. stood_in (more_rows j) (more j))))
+    ∙ (sym (stood_more (take i rows) (take i pairs) (get_or rows i 0) p long) ∙ sym (λ j. stood_in (more_rows j) (more_pairs j))))
 
 stood_taken : (rows : List ℕ) (pairs : List Pair) (i : ℕ) → length pairs ≤ i → stood_in (take i rows) pairs ≡ stood_in rows pairs
 stood_taken [] pairs zero le = refl
@@ -109,9 +103,7 @@ stood_taken (r ∷ rows) [] (suc i) le = refl
 stood_taken (r ∷ rows) (p ∷ pairs) (suc i) le =
     ap (λ (xs : List PartRow). record { row = r; owner = p.owner; range = p.range } ∷ xs) (stood_taken rows pairs i (omega (arith, le)))
 
-pub stood_whole : (rows : List ℕ) (pairs : List Held) (stood : List PartRow) (i : ℕ) → length pairs ≤ i
-    → stood ≡ stood_in (take i rows) (map held_pair (take i pairs)) → stood ≡ stood_in rows (map held_pair pairs)
+pub stood_whole : (rows : List ℕ) (pairs : List Pair) (stood : List PartRow) (i : ℕ) → length pairs ≤ i
+    → stood ≡ stood_in (take i rows) (take i pairs) → stood ≡ stood_in rows pairs
 stood_whole rows pairs stood i le is =
-    let all : map held_pair (take i pairs) ≡ map held_pair pairs = ap (map held_pair) (take_all i pairs le) in
-    is ∙ (ap (stood_in (take i rows)) all
-    ∙ stood_taken rows (map held_pair pairs) i (let e = length-map pairs held_pair in omega arith))
+    is ∙ (ap (stood_in (take i rows)) (take_all i pairs le) ∙ stood_taken rows pairs i le)

@@ -1,15 +1,15 @@
 -- A plan that lays out the pairs after an event that ends a buffer meets what a commit asks.
-use Rattle.std.proofs.Common.{◌≡◌, ℕ, zero, suc, ◌+◌, ◌<◌, ◌⊎◌, inl, inr, List, [], ◌∷◌, map, length, refl, sym, ap, ◌∙◌, subst, arith, ne_eqb}
-use Rattle.std.proofs.Common.{Bool}
-use Rattle.std.specs.Prelude.{pos, if◌then◌else◌}
+use Rattle.std.proofs.Common.{◌≡◌, ℕ, zero, suc, ◌+◌, ◌<◌, ◌⊎◌, inl, inr, List, [], ◌∷◌, map, length, refl, sym, ap, ◌∙◌, subst, arith}
+use Rattle.std.specs.Prelude.{pos}
 use Rattle.lt_seq.specs.declared.event.Deed.{Deed}
 use Rattle.lt_seq.specs.declared.event.Deed.TheVariants.{Ask, Free, Who, Join}
-use Rattle.lt_seq.specs.declared.event.Mode.TheVariants.{Tree as TreeMode, Buffer}
+use Rattle.lt_seq.specs.declared.event.Mode.TheVariants.{Tree as TreeMode}
 use Rattle.lt_seq.specs.declared.event.Pair.{Pair}
-use Rattle.lt_seq.specs.declared.event.Reply.TheVariants.{Granted, Buffered, HeldBy}
+use Rattle.lt_seq.specs.declared.event.Reply.{Reply}
+use Rattle.lt_seq.specs.declared.event.Reply.TheVariants.{Granted, HeldBy}
 use Rattle.lt_seq.specs.Pairs.{others, granted, freed, count_freed, joined}
 use Rattle.lt_seq.specs.SeqPass.{plain}
-use Rattle.lt_seq.specs.Table.{TreeState, tree_of, fresh, after_ask, after_free, pairs_by, reply_by, raised}
+use Rattle.lt_seq.specs.Table.{TreeState, tree_of, after_ask, after_free, pairs_by, reply_by, raised}
 use Rattle.lt_forest.specs.declared.part.PartRow.{PartRow}
 use Rattle.lt_forest.specs.Counts.{times}
 use Rattle.lt_forest.specs.Trees.{Nodes, in_order}
@@ -23,10 +23,11 @@ use Rattle.lt_rows.specs.Lawful.{shown_after, ends_buffer, IsCommit}
 use Rattle.lt_rows.proofs.Planned.{row_held}
 use Rattle.lt_locktree.specs.Endings.{ChainHoldsBuffer, buffered_pairs, LaidBufferCommits, WhoEndsBuffer, HeldAskEndsBuffer}
 use Rattle.lt_locktree.specs.Endings.{GrantedAskEndsBuffer, FreeEndsBuffer, JoinEndsBuffer}
+use Rattle.lt_locktree.proofs.BufferedStates.{state, asked_state, asked_reply, freed_state, freed_number, mode_for_other}
 use Rattle.lt_locktree.proofs.GrantedRuns.{length-numbers}
 
 -- the rows that are taken from the pool are held
-taken_held : {P : ℕ → Type 0} {planned : List ℕ} {trees : ℕ} {c d : Nodes} {taken given : List ℕ}
+pub taken_held : {P : ℕ → Type 0} {planned : List ℕ} {trees : ℕ} {c d : Nodes} {taken given : List ℕ}
     → PoolPlan P planned trees c d taken given → AllHeld P taken
 taken_held (no_pool none gone out) = λ q some. absurd (let z = ap (times q) none in omega arith)
 taken_held (from_pool anchor taken given moves) = taken
@@ -41,7 +42,7 @@ by_where : {P : ℕ → Type 0} (tree : ℕ) (olds taken : List ℕ) → AllHeld
 by_where tree olds taken held more q (inl old) = held q (omega arith)
 by_where tree olds taken held more q (inr new) = more q new
 
-either_held : {P : ℕ → Type 0} (tree : ℕ) (olds taken : List ℕ) → AllHeld P (tree ∷ olds) → AllHeld P taken
+pub either_held : {P : ℕ → Type 0} (tree : ℕ) (olds taken : List ℕ) → AllHeld P (tree ∷ olds) → AllHeld P taken
     → (q : ℕ) → 0 < times q olds + times q taken → P q
 either_held tree olds taken held more q some =
     by_where tree olds taken held more q (some_of (times q olds) (times q taken) some)
@@ -95,7 +96,7 @@ who_ends_buffer v tree owner count asked named olds given rows plan e change buf
     (laid_buffer_commits v owner count olds [] given rows plan (record { pass = e.pass; txn = e.txn; deed = deed }) change
     buffer lt interval lays over pool only pairs
     (subst IsTree (sym now) tt)
-    (now ∙ sym (ap (λ (b : Bool). if b then Buffer owner count else TreeMode 0) (ne_eqb owner named other)))
+    (now ∙ sym (mode_for_other owner count named other))
     (ap (λ (ps : List Pair). Who tree asked named (others named asked ps)) (sym pairs))
     pass change_is
     (λ more. absurd (let a = over.all in omega arith)))
@@ -106,10 +107,8 @@ held_ask_ends_buffer v tree owner count asked holder holders olds given rows pla
     let deed : Deed = Ask tree asked (HeldBy (holder ∷ holders)) in
     let ps : List Pair = buffered_pairs v owner olds in
     let by : others e.txn asked ps ≡ holder ∷ holders = ap (λ (xs : List Pair). others e.txn asked xs) (sym pairs) ∙ held in
-    let state : TreeState = record { pairs = ps; mode = Buffer owner count } in
-    let after : after_ask v.plan.buffer e.txn asked state ≡ record { pairs = ps; mode = TreeMode 0 } =
-    ap (λ (b : Bool). if b then record { pairs = granted e.txn asked ps; mode = Buffer e.txn (count + 1) }
-    else record { pairs = pairs_by (others e.txn asked ps) e.txn asked ps; mode = TreeMode 0 }) full
+    let after : after_ask v.plan.buffer e.txn asked (state owner count e.txn asked ps) ≡ record { pairs = ps; mode = TreeMode 0 } =
+    asked_state owner count e.txn asked ps v.plan.buffer full
     ∙ ap (λ (os : List ℕ). record { pairs = pairs_by os e.txn asked ps; mode = TreeMode 0 }) by in
     subst (λ (d : Deed). IsCommit v.plan v (record { pass = e.pass; txn = e.txn; deed = d }) plan change) (sym is)
     (laid_buffer_commits v owner count olds [] given rows plan (record { pass = e.pass; txn = e.txn; deed = deed }) change
@@ -117,7 +116,7 @@ held_ask_ends_buffer v tree owner count asked holder holders olds given rows pla
     (pairs ∙ sym (ap (λ (t : TreeState). t.pairs) after))
     (subst IsTree (sym now) tt)
     (now ∙ sym (ap (λ (t : TreeState). t.mode) after))
-    (ap (λ (b : Bool). Ask tree asked (if b then Buffered else reply_by (others e.txn asked ps))) full
+    (ap (λ (r : Reply). Ask tree asked r) (asked_reply owner count e.txn asked ps v.plan.buffer full)
     ∙ ap (λ (os : List ℕ). Ask tree asked (reply_by os)) by)
     pass change_is
     (λ more. absurd (let a = over.all in omega arith)))
@@ -127,10 +126,9 @@ granted_ask_ends_buffer v tree owner count asked olds taken given rows plan e ch
     is pass change_is licence =
     let deed : Deed = Ask tree asked Granted in
     let ps : List Pair = buffered_pairs v owner olds in
-    let state : TreeState = record { pairs = ps; mode = Buffer owner count } in
-    let after : after_ask v.plan.buffer e.txn asked state ≡ record { pairs = granted e.txn asked ps; mode = TreeMode 0 } =
-    ap (λ (b : Bool). if b then record { pairs = granted e.txn asked ps; mode = Buffer e.txn (count + 1) }
-    else record { pairs = pairs_by (others e.txn asked ps) e.txn asked ps; mode = TreeMode 0 }) full
+    let after : after_ask v.plan.buffer e.txn asked (state owner count e.txn asked ps)
+    ≡ record { pairs = granted e.txn asked ps; mode = TreeMode 0 } =
+    asked_state owner count e.txn asked ps v.plan.buffer full
     ∙ ap (λ (os : List ℕ). record { pairs = pairs_by os e.txn asked ps; mode = TreeMode 0 }) alone in
     subst (λ (d : Deed). IsCommit v.plan v (record { pass = e.pass; txn = e.txn; deed = d }) plan change) (sym is)
     (laid_buffer_commits v owner count olds taken given rows plan (record { pass = e.pass; txn = e.txn; deed = deed }) change
@@ -138,7 +136,7 @@ granted_ask_ends_buffer v tree owner count asked olds taken given rows plan e ch
     (pairs ∙ sym (ap (λ (t : TreeState). t.pairs) after))
     (subst IsTree (sym now) tt)
     (now ∙ sym (ap (λ (t : TreeState). t.mode) after))
-    (ap (λ (b : Bool). Ask tree asked (if b then Buffered else reply_by (others e.txn asked ps))) full
+    (ap (λ (r : Reply). Ask tree asked r) (asked_reply owner count e.txn asked ps v.plan.buffer full)
     ∙ ap (λ (os : List ℕ). Ask tree asked (reply_by os)) alone)
     pass change_is licence)
 
@@ -147,19 +145,19 @@ free_ends_buffer v tree owner count asked first olds taken given rows plan e cha
     change_is licence =
     let ps : List Pair = buffered_pairs v owner olds in
     let deed : Deed = Free tree asked first (count_freed e.txn asked ps) in
-    let state : TreeState = record { pairs = ps; mode = Buffer owner count } in
-    let after : after_free e.txn asked first state ≡ record { pairs = freed e.txn asked ps; mode = raised first (TreeMode 0) } =
-    ap (λ (b : Bool). if b then fresh else record { pairs = freed e.txn asked ps; mode = raised first (TreeMode 0) }) part in
+    let after : after_free e.txn asked first (state owner count e.txn asked ps)
+    ≡ record { pairs = freed e.txn asked ps; mode = raised first (TreeMode 0) } =
+    freed_state owner count e.txn asked ps first part in
     subst (λ (d : Deed). IsCommit v.plan v (record { pass = e.pass; txn = e.txn; deed = d }) plan change) (sym is)
     (laid_buffer_commits v owner count olds taken given rows plan (record { pass = e.pass; txn = e.txn; deed = deed }) change
     buffer lt interval lays over pool only
     (pairs ∙ sym (ap (λ (t : TreeState). t.pairs) after))
     (subst IsTree (sym now) tt)
     (now ∙ sym (ap (λ (t : TreeState). t.mode) after))
-    (ap (λ (b : Bool). Free tree asked first (if b then length ps else count_freed e.txn asked ps)) part)
+    (ap (λ (n : ℕ). Free tree asked first n) (freed_number owner count e.txn asked ps part))
     pass change_is licence)
 
-length-pairs : (rows : List PartRow) → length (map row_pair rows) ≡ length rows
+pub length-pairs : (rows : List PartRow) → length (map row_pair rows) ≡ length rows
 length-pairs [] = refl
 length-pairs (r ∷ rows) = ap (λ (n : ℕ). suc n) (length-pairs rows)
 

@@ -81,6 +81,14 @@ WhoEndsBuffer =
     → e.pass + 1 ≡ v.mark → change +ℤ pos (length olds) ≡ pos (length rows)
     → IsCommit v.plan v e plan change
 
+-- Someone asks who holds against the owner: the anchor alone is held, nobody stands in the way, and nothing changes.
+abbrev pub OwnWhoKeepsBuffer : Type 0
+OwnWhoKeepsBuffer =
+    (v : View) (tree owner count : ℕ) (asked : Interval) (e : Event)
+    → IsIn (has v) tree → mode_of (images v tree) ≡ Buffer owner count → tree < v.plan.trees → IsInterval asked
+    → e.deed ≡ Who tree asked owner [] → e.pass + 1 ≡ v.mark
+    → IsCommit v.plan v e [] (pos 0)
+
 -- An ask is held by others than its transaction. It is of another than the owner, or the buffer is full.
 abbrev pub HeldAskEndsBuffer : Type 0
 HeldAskEndsBuffer =

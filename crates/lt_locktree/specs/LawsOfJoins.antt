@@ -1,9 +1,12 @@
 -- A join of a whole tree, from what a search holds that keeps the anchor.
 use Rattle.std.specs.Prelude.{◌≡◌, ℕ, ℤ, pos, ◌+ℤ◌, ◌+◌, ◌<◌, List, [], ◌∷◌, map, length, replicate}
-use Rattle.lt_ranges.specs.Interval.{whole}
+use Rattle.lt_ranges.specs.Interval.{Interval, whole}
 use Rattle.lt_seq.specs.declared.event.Event.{Event}
 use Rattle.lt_seq.specs.declared.event.Deed.TheVariants.{Join}
+use Rattle.lt_seq.specs.History.{after}
 use Rattle.lt_seq.specs.Pairs.{joined}
+use Rattle.lt_seq.specs.SeqPass.{plain}
+use Rattle.lt_seq.specs.Table.{tree_at}
 use Rattle.lt_forest.specs.declared.part.PartRow.{PartRow}
 use Rattle.lt_forest.specs.Counts.{times}
 use Rattle.lt_forest.specs.Parts.{row_pair, numbers}
@@ -12,6 +15,8 @@ use Rattle.lt_rows.specs.declared.image.RowImage.{RowImage}
 use Rattle.lt_rows.specs.declared.view.View.{View}
 use Rattle.lt_rows.specs.Views.{has, planned_rows}
 use Rattle.lt_rows.specs.Lawful.{shown, shown_after, mode_before, mode_after, IsCommit}
+use Rattle.lt_rows.specs.Rule.{Stood}
+use Rattle.lt_rows.specs.Woods.{woods}
 use Rattle.lt_tree.specs.Gathers.{below_top, IsLockedWith, IsClosed}
 use Rattle.lt_locktree.specs.RelaidRows.{LaysRows}
 
@@ -34,3 +39,21 @@ JoinCommits =
     → PlansOnly (here ∷ v.plan.trees ∷ numbers rows) (planned_rows plan)
     → e.pass + 1 ≡ v.mark → e.deed ≡ Join tree (length rows) (length rows') → change +ℤ pos (length given) ≡ pos 0
     → IsCommit v.plan v e plan change
+
+-- Where no two neighbours have one owner, nothing changes.
+abbrev pub NoneJoinedCommits : Type 0
+NoneJoinedCommits =
+    (v : View) (tree here : ℕ) (rows : List PartRow) (more : List ℕ) (e : Event)
+    (l : IsLockedWith v tree whole here rows (replicate (length rows + 1) 0) more)
+    → IsClosed whole rows (replicate (length rows + 1) 0) → tree < v.plan.trees → l.place ≡ below_top
+    → joined [] (map row_pair rows) ≡ map row_pair rows
+    → e.pass + 1 ≡ v.mark → e.deed ≡ Join tree (length rows) (length rows)
+    → IsCommit v.plan v e [] (pos 0)
+
+-- Behind any history that stood with what is held, the rows of the whole tree have its pairs.
+abbrev pub WholeTreeHasRows : Type 0
+WholeTreeHasRows =
+    (v : View) (tree : ℕ) (asked : Interval) (here : ℕ) (rows : List PartRow) (hangs more : List ℕ) (log : List Event)
+    (l : IsLockedWith v tree asked here rows hangs more)
+    → IsClosed asked rows hangs → asked ≡ whole → tree < v.plan.trees → here ≡ tree → Stood (woods v.plan) v log
+    → map row_pair rows ≡ (tree_at (after (plain v.plan) log) tree).pairs

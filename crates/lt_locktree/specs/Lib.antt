@@ -20,3 +20,8 @@ pub mod Splits
 pub mod EndingPlans
 pub mod EndingRows
 pub mod Mergings
+pub mod Deeds
+pub mod Ends
+pub mod EndedBuffers
+pub mod TakenBuffers
+pub mod Serves

@@ -1,7 +1,6 @@
 //! An ask in a tree of shared rows, whole.
 ghost use Rattle.std.specs.Prelude.{◌≡◌, ◌<◌, [], true, IfOk, IfErr, List, map};
 ghost use Rattle.lt_seq.specs.declared.event.Deed.TheVariants.{Ask};
-ghost use Rattle.lt_seq.specs.declared.event.Reply.{Reply as Answer};
 ghost use Rattle.lt_seq.specs.declared.event.Reply.TheVariants.{Granted};
 ghost use Rattle.lt_seq.specs.Pairs.{others};
 ghost use Rattle.lt_forest.specs.Parts.{row_pair};
@@ -11,9 +10,11 @@ ghost use Rattle.lt_rows.specs.Handles.{knows, IsPassOf, IsSamePass};
 ghost use Rattle.lt_tree.specs.States.{HoldsNone, OnlyRows, IsRefused};
 ghost use Rattle.lt_tree.specs.Gathers.{IsLockedWith, IsClosed};
 ghost use Rattle.lt_tree.specs.Pools.{pool_rows, HoldsNoVacant};
+ghost use Rattle.lt_locktree.specs.Deeds.{MakesDeed};
 ghost use Rattle.lt_locktree.specs.LawsOfGrants.{NoBufferBegins};
 ghost use Rattle.lt_locktree.specs.Makes.{IsOf, Makes, IsReplyTo};
 
+use crate::answers::Asked;
 use crate::asking::Asking;
 use crate::growing::grow_row;
 use crate::inserting::put_in_row;
@@ -22,7 +23,7 @@ use crate::owners::owners_of;
 use crate::questions::refuse_ask;
 use crate::splitting::overlapping;
 use lt_rows::RowPass;
-use lt_seq::{Fault, Receipt};
+use lt_seq::{Fault, Receipt, Reply};
 use lt_tree::Locked;
 use std::alloc::Global;
 
@@ -79,7 +80,7 @@ pub fn ask_in_tree<'a>(
     alloc: Global,
     locked: Locked<'a>,
     asking: &Asking,
-) -> Result<(RowPass, Receipt), (RowPass, Fault)>
+) -> Result<(RowPass, Asked), (RowPass, Fault)>
     requires fresh { (knows locked.pass).fresh ≡ true }
     requires licensed { (knows locked.pass).licensed ≡ true }
     requires none { HoldsNoVacant locked.pool }
@@ -89,14 +90,10 @@ pub fn ask_in_tree<'a>(
     requires asking { IsOf locked.pass locked.tree locked.asked asking.now }
     requires unbuffered { NoBufferBegins (knows locked.pass) locked.tree locked.held asking.now.txn locked.part.rows.items }
     ensures of { IfOk result (λ r. IsPassOf locked.entry.table.now r.0 × IsSamePass locked.entry.pass r.0 × HoldsNone (knows r.0)) }
-    ensures made { IfOk result (λ r. (u : View) × (plan : List Image) × OnlyRows (knows locked.entry.pass) u
-        × Makes u (knows r.0) plan r.1.event r.1.place) }
-    ensures event { IfOk result (λ r. (reply : Answer) × IsReplyTo (others asking.now.txn asking.now.range
-        (map row_pair locked.entry.part.rows.items)) reply × (r.1.event ≡ record {
-          pass = asking.now.pass;
-          txn = asking.now.txn;
-          deed = Ask asking.now.tree asking.now.range reply;
-        })) }
+    ensures made { IfOk result (λ r. MakesDeed (knows locked.entry.pass) (knows r.0) asking.now
+        (Ask asking.now.tree asking.now.range r.1.reply) r.1.place × (r.1.copy ≡ r.1.reply)) }
+    ensures answer { IfOk result (λ r. IsReplyTo (others asking.now.txn asking.now.range
+        (map row_pair locked.entry.part.rows.items)) r.1.reply) }
     ensures handed { IfErr result (λ r. IsPassOf locked.entry.table.now r.0 × IsSamePass locked.entry.pass r.0 × HoldsNone (knows r.0)
         × OnlyRows (knows locked.entry.pass) (knows r.0)) }
     ensures refused { IfErr result (λ r. IsRefused (knows locked.entry.pass) (knows r.0) r.1) }
@@ -105,8 +102,16 @@ pub fn ask_in_tree<'a>(
         return Err((locked.release(), Fault::OutOfMemory));
     };
     if owners.as_slice().is_empty() {
-        grant_ask(alloc, locked, asking)
-    } else {
-        Ok(refuse_ask(locked, asking, owners))
+        let (pass, receipt) = grant_ask(alloc, locked, asking)?;
+        let asked = Asked {
+            place: receipt.place,
+            reply: Reply::Granted,
+            copy: Reply::Granted,
+        };
+        return Ok((pass, asked));
     }
+    let Ok(copy) = owners.again() else {
+        return Err((locked.release(), Fault::OutOfMemory));
+    };
+    Ok(refuse_ask(locked, asking, owners, copy))
 }

@@ -1,14 +1,14 @@
 //! Laws of what is asked of a tree. Each function's contract is a law over the definitions; the bodies are empty.
-ghost use Rattle.lt_locktree.specs.LawsOfCalls.{MakesOneCall, MakesNext};
+ghost use Rattle.lt_locktree.specs.LawsOfCalls.{DeedIsMade, DeedIsRefused, JoinIsMade, MakesNext, MakesOneCall};
 ghost use Rattle.lt_locktree.specs.LawsOfDeeds.{WhoCommits, HeldAskCommits};
 ghost use Rattle.lt_locktree.specs.Endings.{ChainHoldsBuffer, FreeEndsBuffer, GrantedAskEndsBuffer, HeldAskEndsBuffer};
-ghost use Rattle.lt_locktree.specs.Endings.{JoinEndsBuffer, LaidBufferCommits, WhoEndsBuffer};
+ghost use Rattle.lt_locktree.specs.Endings.{JoinEndsBuffer, LaidBufferCommits, OwnWhoKeepsBuffer, WhoEndsBuffer};
 ghost use Rattle.lt_locktree.specs.EndingPlans.{GivenPlanLaysOut, KeptPlanLaysOut, TakenPlanLaysOut};
 ghost use Rattle.lt_locktree.specs.EndingRows.{AllPairsStand, ChainIsEnough, FirstRowsTakeOver, HeldPairsAreRead, VacantRowTakesOver};
 ghost use Rattle.lt_locktree.specs.LawsOfFrees.{FreeCommits, NoneFreedCommits};
 ghost use Rattle.lt_locktree.specs.LawsOfFreePlans.{FreePlanCommits};
 ghost use Rattle.lt_locktree.specs.LawsOfGrants.{MergedAskCommits, PutInAskCommits};
-ghost use Rattle.lt_locktree.specs.LawsOfJoins.{JoinCommits};
+ghost use Rattle.lt_locktree.specs.LawsOfJoins.{JoinCommits, NoneJoinedCommits, WholeTreeHasRows};
 ghost use Rattle.lt_locktree.specs.LawsOfJoinPlans.{JoinPlanCommits};
 ghost use Rattle.lt_locktree.specs.LawsOfPlans.{GrownPlanCommits, MergedPlanCommits, PutInPlanCommits};
 
@@ -44,9 +44,12 @@ pub fn plans_of_frees()
     ensures { FreePlanCommits }
 {}
 
-/// A join is a commit of a plan in which each longest run of neighbours of one owner becomes one row.
+/// A join is a commit of a plan in which each longest run of neighbours of one owner becomes one row, or of none where there is no such
+/// run of two. The rows that it holds have the tree's pairs.
 pub fn joins_are_made()
-    ensures { JoinCommits }
+    ensures joined { JoinCommits }
+    ensures none { NoneJoinedCommits }
+    ensures noted { WholeTreeHasRows }
 {}
 
 /// The plan of a join, as it is made.
@@ -58,6 +61,22 @@ pub fn plans_of_joins()
 pub fn deeds_are_calls()
     ensures call { MakesOneCall }
     ensures next { MakesNext }
+{}
+
+/// What a pass has made below is its call's event, and a refusal below is its call's.
+pub fn deeds_are_answers()
+    ensures made { DeedIsMade }
+    ensures refused { DeedIsRefused }
+{}
+
+/// Who holds, asked for a buffer's own transaction, is a commit that changes nothing, by a pass that holds the anchor alone.
+pub fn buffers_are_kept()
+    ensures { OwnWhoKeepsBuffer }
+{}
+
+/// A join with its note, told in the same words.
+pub fn joins_are_answers()
+    ensures { JoinIsMade }
 {}
 
 /// An event that ends a buffer is a commit of a plan that lays the pairs after it out as a tree.

@@ -2,9 +2,21 @@
 #![tactic(auto)]
 
 mod answers;
+mod ask;
+mod asked_buffer;
 mod asking;
+mod buffer_ask;
+mod buffer_end;
+mod buffer_free;
+mod buffer_join;
+mod buffer_plan;
+mod buffer_rows;
+mod buffer_taken;
+mod buffer_who;
 mod drawing;
 mod ending;
+mod escalate;
+mod free;
 mod freeing;
 mod giving;
 mod granting;
@@ -15,13 +27,17 @@ pub mod laws;
 mod leaving;
 mod locktree;
 mod merging;
+mod noting;
 mod owners;
+mod pairs_of;
 mod planning;
 mod questions;
 mod rejoining;
+mod serving;
 mod splitting;
 mod standing;
 mod tree_pass;
+mod who;
 
 pub use answers::{Asked, Named};
 pub use asking::Asking;
@@ -34,10 +50,14 @@ pub use joining::widen_whole;
 pub use leaving::{Leaving, LeftOut, leave_out, leave_widened};
 pub use locktree::Locktree;
 pub use merging::{merge_rows, plan_merged};
+pub use noting::held_rows;
 pub use owners::owners_of;
 pub use planning::plan_rows;
 pub use questions::{ask_who, refuse_ask};
-pub use rejoining::{Rejoined, join_rows, join_tree, part_rejoined, rejoin};
+pub use rejoining::{Rejoined, join_none, join_rows, join_tree, part_rejoined, rejoin};
 pub use splitting::overlapping;
 pub use standing::stand_pairs;
 pub use tree_pass::TreePass;
+
+#[cfg(test)]
+mod tests;

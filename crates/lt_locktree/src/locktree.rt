@@ -15,6 +15,9 @@ use lt_rows::{RowNote, RowPass, RowTable, RowsLeft};
 use lt_seq::{Look, YardPlan};
 use std::alloc::{AllocError, Global};
 
+/// How often a row that another pass holds is tried again.
+pub(crate) const SPINS: u32 = 64;
+
 /// Ranges of keys in trees, each held by one transaction, over rows that threads share.
 ///
 /// No call waits. A deed takes the rows that it needs, makes one event, and gives them all back; where it makes none, it has given
@@ -63,6 +66,13 @@ impl Locktree {
         ensures { result.now ≡ self.now.rows.plan }
     {
         self.rows.plan()
+    }
+
+    /// The table of its rows.
+    pub fn table(&self) -> &RowTable
+        ensures { result.now ≡ self.now.rows }
+    {
+        &self.rows
     }
 
     /// Shows the place of the next event and the used rows. Afterwards the pass is fresh where that place is below 2^39, and

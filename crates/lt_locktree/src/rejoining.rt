@@ -1,27 +1,26 @@
 //! Rows of a whole tree, of which neighbours of one owner become one.
-ghost use Rattle.std.specs.Prelude.{◌≡◌, ◌+◌, List, [], length, map, replicate, true, IfOk, IfErr};
+ghost use Rattle.std.specs.Prelude.{◌≡◌, ◌+◌, [], length, map, replicate, true, IfOk, IfErr};
 ghost use Rattle.lt_ranges.specs.Interval.{whole};
-ghost use Rattle.lt_seq.specs.declared.event.Deed.TheVariants.{Join};
+ghost use Rattle.lt_seq.specs.declared.fault.Fault.TheVariants.{OutOfMemory};
 ghost use Rattle.lt_seq.specs.Pairs.{IsLawful, joined};
 ghost use Rattle.lt_forest.specs.Parts.{row_pair};
-ghost use Rattle.lt_rows.specs.declared.image.RowImage.{RowImage as Image};
-ghost use Rattle.lt_rows.specs.declared.view.View.{View};
 ghost use Rattle.lt_rows.specs.Handles.{knows, IsPassOf, IsSamePass};
 ghost use Rattle.lt_tree.specs.States.{HoldsNone, OnlyRows, IsRefused};
 ghost use Rattle.lt_tree.specs.Gathers.{IsLocked, IsLockedWith, IsClosed};
 ghost use Rattle.lt_tree.specs.declared.pool.PoolRows.TheVariants.{Nothing};
-ghost use Rattle.lt_forest.specs.declared.part.PartRow.{PartRow};
 ghost use Rattle.lt_tree.specs.Pools.{pool_rows};
-ghost use Rattle.lt_locktree.specs.Makes.{IsOf, Makes};
+ghost use Rattle.lt_locktree.specs.Deeds.{MakesJoin};
+ghost use Rattle.lt_locktree.specs.Makes.{IsOf};
 ghost use Rattle.lt_locktree.specs.Rejoined.{IsRejoined, IsRejoinedPart};
 
 use crate::asking::Asking;
 use crate::freeing::{fewer, plan_freed};
 use crate::joining::widen_whole;
 use crate::leaving::LeftOut;
+use crate::noting::{held_rows, join_event};
 use lt_forest::{Part, PartRow};
 use lt_rows::RowPass;
-use lt_seq::{Deed, Event, Fault, Receipt};
+use lt_seq::{Fault, JoinNote};
 use lt_tree::Locked;
 use std::alloc::{AllocError, Global};
 
@@ -86,7 +85,7 @@ pub fn join_rows<'a>(
     locked: Locked<'a>,
     asking: &Asking,
     left: &LeftOut,
-) -> Result<(RowPass, Receipt), (RowPass, Fault)>
+) -> Result<(RowPass, JoinNote), (RowPass, Fault)>
     requires fresh { (knows locked.pass).fresh ≡ true }
     requires locked { IsLockedWith (knows locked.pass) locked.tree locked.asked locked.held locked.part.rows.items
         locked.part.hangs.items (pool_rows (knows locked.pass).plan.trees locked.pool) }
@@ -96,19 +95,15 @@ pub fn join_rows<'a>(
     requires bare { locked.part.hangs.items ≡ replicate (length locked.part.rows.items + 1) 0 }
     requires left { IsRejoinedPart locked.part.rows.items left.now }
     ensures of { IfOk result (λ r. IsPassOf locked.entry.table.now r.0 × IsSamePass locked.entry.pass r.0 × HoldsNone (knows r.0)) }
-    ensures made { IfOk result (λ r. (u : View) × (plan : List Image) × OnlyRows (knows locked.entry.pass) u
-        × Makes u (knows r.0) plan r.1.event r.1.place) }
-    ensures event { IfOk result (λ r. r.1.event ≡ record {
-      pass = asking.now.pass;
-      txn = asking.now.txn;
-      deed = Join asking.now.tree (length locked.entry.part.rows.items)
-          (length (joined [] (map row_pair locked.entry.part.rows.items)));
-    }) }
+    ensures made { IfOk result (λ r. MakesJoin (knows locked.entry.pass) (knows r.0) asking.now r.1) }
     ensures handed { IfErr result (λ r. IsPassOf locked.entry.table.now r.0 × IsSamePass locked.entry.pass r.0 × HoldsNone (knows r.0)
         × OnlyRows (knows locked.entry.pass) (knows r.0)) }
     ensures refused { IfErr result (λ r. IsRefused (knows locked.entry.pass) (knows r.0) r.1) }
 {
     let mut locked = locked;
+    let Ok(pairs) = held_rows(alloc, asking.tree, &left.part.rows) else {
+        return Err((locked.release(), Fault::OutOfMemory));
+    };
     if let Err(fault) = locked.pool() {
         return Err((locked.release(), fault));
     }
@@ -120,22 +115,62 @@ pub fn join_rows<'a>(
         return Err((locked.release(), Fault::OutOfMemory));
     };
     let count = left.gone.len();
-    let after = left.part.rows.len();
-    let event = Event {
-        pass: asking.pass,
-        txn: asking.txn,
-        deed: Deed::Join {
-            tree: asking.tree,
-            before: (after + count) as u64,
-            after: after as u64,
-        },
-    };
+    let kept = left.part.rows.len();
+    let before = (kept + count) as u64;
+    let after = kept as u64;
+    let event = join_event(asking, before, after);
     let (pass, place) = locked.finish(&plan, &event, fewer(count));
-    Ok((pass, Receipt { place, event }))
+    let note = JoinNote {
+        place,
+        tree: asking.tree,
+        before,
+        after,
+        pairs,
+    };
+    Ok((pass, note))
+}
+
+/// Joins a whole tree of which no two neighbours have one owner, by an event that ends the search and changes no row.
+///
+/// # Errors
+/// Want of memory alone. There is no event then, and no row is held.
+pub fn join_none<'a>(
+    alloc: Global,
+    locked: Locked<'a>,
+    asking: &Asking,
+) -> Result<(RowPass, JoinNote), (RowPass, Fault)>
+    requires fresh { (knows locked.pass).fresh ≡ true }
+    requires locked { IsLockedWith (knows locked.pass) locked.tree locked.asked locked.held locked.part.rows.items
+        locked.part.hangs.items (pool_rows (knows locked.pass).plan.trees locked.pool) }
+    requires closed { IsClosed locked.asked locked.part.rows.items locked.part.hangs.items }
+    requires asking { IsOf locked.pass locked.tree locked.asked asking.now }
+    requires anchor { (locked.held ≡ locked.tree) × (locked.asked ≡ whole) }
+    requires bare { locked.part.hangs.items ≡ replicate (length locked.part.rows.items + 1) 0 }
+    requires none { joined [] (map row_pair locked.part.rows.items) ≡ map row_pair locked.part.rows.items }
+    ensures of { IfOk result (λ r. IsPassOf locked.entry.table.now r.0 × IsSamePass locked.entry.pass r.0 × HoldsNone (knows r.0)) }
+    ensures made { IfOk result (λ r. MakesJoin (knows locked.entry.pass) (knows r.0) asking.now r.1) }
+    ensures handed { IfErr result (λ r. IsPassOf locked.entry.table.now r.0 × IsSamePass locked.entry.pass r.0 × HoldsNone (knows r.0)
+        × OnlyRows (knows locked.entry.pass) (knows r.0)) }
+    ensures refused { IfErr result (λ r. r.1 ≡ OutOfMemory) }
+{
+    let Ok(pairs) = held_rows(alloc, asking.tree, &locked.part().rows) else {
+        return Err((locked.release(), Fault::OutOfMemory));
+    };
+    let count = locked.part().rows.len() as u64;
+    let event = join_event(asking, count, count);
+    let (pass, place) = locked.finish(&[], &event, 0);
+    let note = JoinNote {
+        place,
+        tree: asking.tree,
+        before: count,
+        after: count,
+        pairs,
+    };
+    Ok((pass, note))
 }
 
 /// Joins a whole tree, whose anchor a search keeps, by an event that ends the search: each longest run of neighbours of one owner becomes
-/// one row, and the others of the run are given to the pool.
+/// one row, and the others of the run are given to the pool. Where there are none, the pool's anchor isn't taken.
 ///
 /// # Errors
 /// `Busy` only where a row was met held by another pass, which never comes to a pass with all the rights; or want of memory. There is
@@ -144,7 +179,7 @@ pub fn join_tree<'a>(
     alloc: Global,
     locked: Locked<'a>,
     asking: &Asking,
-) -> Result<(RowPass, Receipt), (RowPass, Fault)>
+) -> Result<(RowPass, JoinNote), (RowPass, Fault)>
     requires fresh { (knows locked.pass).fresh ≡ true }
     requires locked { IsLocked (knows locked.pass) locked.tree locked.asked locked.held locked.part.rows.items locked.part.hangs.items }
     requires pool { locked.pool ≡ Nothing }
@@ -152,13 +187,7 @@ pub fn join_tree<'a>(
     requires asking { IsOf locked.pass locked.tree locked.asked asking.now }
     requires anchor { (locked.held ≡ locked.tree) × (locked.asked ≡ whole) }
     ensures of { IfOk result (λ r. IsPassOf locked.entry.table.now r.0 × IsSamePass locked.entry.pass r.0 × HoldsNone (knows r.0)) }
-    ensures made { IfOk result (λ r. (u : View) × (plan : List Image) × OnlyRows (knows locked.entry.pass) u
-        × Makes u (knows r.0) plan r.1.event r.1.place) }
-    ensures event { IfOk result (λ r. (rows : List PartRow) × (r.1.event ≡ record {
-      pass = asking.now.pass;
-      txn = asking.now.txn;
-      deed = Join asking.now.tree (length rows) (length (joined [] (map row_pair rows)));
-    })) }
+    ensures made { IfOk result (λ r. MakesJoin (knows locked.entry.pass) (knows r.0) asking.now r.1) }
     ensures handed { IfErr result (λ r. IsPassOf locked.entry.table.now r.0 × IsSamePass locked.entry.pass r.0 × HoldsNone (knows r.0)
         × OnlyRows (knows locked.entry.pass) (knows r.0)) }
     ensures refused { IfErr result (λ r. IsRefused (knows locked.entry.pass) (knows r.0) r.1) }
@@ -170,6 +199,9 @@ pub fn join_tree<'a>(
     let Ok(after) = rejoin(alloc, &locked.part().rows) else {
         return Err((locked.release(), Fault::OutOfMemory));
     };
+    if after.gone.is_empty() {
+        return join_none(alloc, locked, asking);
+    }
     let Ok(left) = part_rejoined(alloc, after) else {
         return Err((locked.release(), Fault::OutOfMemory));
     };

@@ -30,4 +30,11 @@ impl TreePass {
     {
         self.pass.rights()
     }
+
+    /// The pass of the rows, which holds none.
+    pub fn into_rows(self) -> RowPass
+        ensures { (result ≡ self.pass) × HoldsNone (knows result) }
+    {
+        self.pass
+    }
 }

@@ -1,10 +1,20 @@
-use Rattle.std.proofs.Common.{rules, ◌≡◌, ℕ, ◌<◌, List, length, replicate, ◌+◌, refl, sym, ap, ◌∙◌, subst, eq-eqb, arith, ℤ, pos, ◌+ℤ◌, w64, FitsSigned}
+use Rattle.std.proofs.Common.{rules, ◌≡◌, ℕ, ◌<◌, List, [], map, length, replicate, ◌+◌, refl, sym, ap, ◌∙◌, subst, eq-eqb, arith, ℤ, pos, ◌+ℤ◌, w64, FitsSigned}
 use Rattle.std.specs.Prelude.{nat_eq}
 use Rattle.std.proofs.lemmas.Int.{to_z-of_z}
+use Rattle.std.proofs.lemmas.List.{length-map}
 use Rattle.lt_ranges.specs.Interval.{Interval, whole}
+use Rattle.lt_seq.specs.declared.event.Event.{Event}
+use Rattle.lt_seq.specs.declared.event.Pair.{Pair}
 use Rattle.lt_seq.specs.declared.event.Deed.TheVariants.{Join}
+use Rattle.lt_seq.specs.declared.plan.YardPlan.{YardPlan}
+use Rattle.lt_seq.specs.History.{after as after_log}
+use Rattle.lt_seq.specs.Pairs.{joined}
+use Rattle.lt_seq.specs.SeqPass.{plain}
+use Rattle.lt_seq.specs.Table.{tree_at, held_in}
+use Rattle.lt_forest.specs.declared.part.PartRow.{PartRow}
 use Rattle.lt_forest.specs.declared.part.Part.{Part}
 use Rattle.lt_forest.specs.Counts.{one_if, times}
+use Rattle.lt_forest.specs.Parts.{row_pair}
 use Rattle.lt_rows.specs.declared.image.RowImage.{RowImage}
 use Rattle.lt_rows.specs.declared.view.View.{View}
 use Rattle.lt_rows.specs.Handles.{knows}
@@ -15,10 +25,13 @@ use Rattle.lt_tree.specs.declared.pool.PoolRows.{PoolRows}
 use Rattle.lt_tree.specs.Gathers.{IsClosed, IsLockedWith}
 use Rattle.lt_tree.specs.Pools.{pool_rows}
 use Rattle.lt_locktree.specs.Rejoined.{IsRejoinedPart}
-use Rattle.lt_locktree.specs.Makes.{IsOf}
+use Rattle.lt_locktree.specs.declared.asking.Asking.{Asking}
+use Rattle.lt_locktree.specs.Deeds.{asked_event}
+use Rattle.lt_locktree.specs.Makes.{IsOf, Makes}
 use Rattle.lt_locktree.specs.PlannedParts.{IsLoaded}
 use Rattle.lt_locktree.proofs.FreeServed.{anchor_in}
-use Rattle.lt_locktree.proofs.JoinServed.{join_all, joined_small, rows_before, pairs_after}
+use Rattle.lt_locktree.proofs.JoinNotes.{whole_tree_has_rows, noted}
+use Rattle.lt_locktree.proofs.JoinServed.{join_all, joined_small, rows_before}
 use Rattle.lt_locktree.proofs.rejoining.join_rows.Goals as goal
 use Rattle.lt_locktree.proofs.rejoining.join_rows.Goals.{After-fewer}
 
@@ -32,15 +45,11 @@ image-stays-requires c =
     }
 
 served : (c : After-fewer) (change : ℤ) → change +ℤ pos (length c.args.left.now.gone.items) ≡ pos 0
-    → AllHeld (knows c.pool.new.self.pass).held c.in-Ok.plan.items
+    → AllHeld (knows c.pool.new.self.pass).held c.in-Ok-plan_freed.plan.items
     × IsCommit (knows c.pool.new.self.pass).plan (knows c.pool.new.self.pass)
-    record {
-      pass = c.args.asking.now.pass;
-      txn = c.args.asking.now.txn;
-      deed = Join c.args.asking.now.tree (length c.args.left.now.part.rows.items + length c.args.left.now.gone.items)
-          (length c.args.left.now.part.rows.items);
-    }
-    c.in-Ok.plan.items change
+    (asked_event c.args.asking.now (Join c.args.asking.now.tree (length c.args.left.now.part.rows.items + length c.args.left.now.gone.items)
+    (length c.args.left.now.part.rows.items)))
+    c.in-Ok-plan_freed.plan.items change
 served c change counts =
     let s = c.pool.new.self in
     let v : View = knows s.pass in
@@ -77,11 +86,11 @@ served c change counts =
     (subst (λ (x : Interval × List ℕ). IsLockedWith v s.tree x.0 s.held s.part.rows.items x.1 (pool_rows v.plan.trees s.pool)) (λ j. (asked j, bare j))
     c.pool.ensures.locked)
     closed s.of.0.1 s.of.2 a of s.pass.numbered.0
-    (subst (λ (p : PoolRows). 0 < times v.plan.trees (pool_rows v.plan.trees p)) (sym c.in_default.ensures.pool)
+    (subst (λ (p : PoolRows). 0 < times v.plan.trees (pool_rows v.plan.trees p)) (sym c.in_default-pool.ensures.pool)
     (anchor_in v.plan.trees c.args.locked.pool))
     top stays pool loaded pool_loaded c.args.left.now
     (subst (λ (p : Part). IsRejoinedPart p.rows.items c.args.left.now) (sym kept.4) c.requires.left)
-    c.in-Ok.plan.items c.in-Ok.ensures change counts
+    c.in-Ok-plan_freed.plan.items c.in-Ok-plan_freed.ensures change counts
 
 pub plan_freed-requires-clause-small : goal.plan_freed-requires-clause-small
 plan_freed-requires-clause-small c =
@@ -95,29 +104,65 @@ same_view c = c.image-pool.ensures.same.1 ∙ c.image-stays.ensures.same.1
 count_is : (c : After-fewer) → c.len-count.result ≡ length c.args.left.now.gone.items
 count_is c = c.len-count.ensures ∙ (search rules)
 
-after_is : (c : After-fewer) → c.len-after.result ≡ length c.args.left.now.part.rows.items
-after_is c = c.len-after.ensures ∙ (search rules)
+kept_is : (c : After-fewer) → c.len-kept.result ≡ length c.args.left.now.part.rows.items
+kept_is c = c.len-kept.ensures ∙ (search rules)
+
+event_is : (c : After-fewer) → c.join_event-event.result
+    ≡ asked_event c.args.asking.now (Join c.args.asking.now.tree (length c.args.left.now.part.rows.items + length c.args.left.now.gone.items)
+    (length c.args.left.now.part.rows.items))
+event_is c =
+    c.join_event-event.ensures ∙ (λ j. asked_event c.args.asking.now (Join c.args.asking.now.tree (kept_is c j + count_is c j) (kept_is c j)))
 
 pub finish-pass-requires-clause-held : goal.finish-pass-requires-clause-held
 finish-pass-requires-clause-held c =
     subst (λ (x : View × List RowImage). AllHeld x.0.held x.1)
-    (λ j. (sym (same_view c) j, sym c.deref.ensures.value j))
+    (λ j. (sym (same_view c) j, sym c.deref-2.ensures.value j))
     (served c c.fewer.result (ap (λ (n : ℕ). c.fewer.result +ℤ pos n) (sym (count_is c)) ∙ c.fewer.ensures)).0
 
 pub finish-pass-requires-clause-lawful : goal.finish-pass-requires-clause-lawful
 finish-pass-requires-clause-lawful c =
     let fits : FitsSigned w64 c.fewer.result = record { sfits = c.fewer.type_inv } in
-    subst (λ (x : (View × List RowImage) × (ℤ × (ℕ × ℕ))). IsCommit x.0.0.plan x.0.0
-    record { pass = c.args.asking.now.pass; txn = c.args.asking.now.txn; deed = Join c.args.asking.now.tree (x.1.1.1 + x.1.1.0) x.1.1.1 } x.0.1 x.1.0)
-    (λ j. ((sym (same_view c) j, sym c.deref.ensures.value j), (sym (to_z-of_z w64 c.fewer.result fits) j, (sym (count_is c) j, sym (after_is c) j))))
+    subst (λ (x : (View × List RowImage) × (ℤ × Event)). IsCommit x.0.0.plan x.0.0 x.1.1 x.0.1 x.1.0)
+    (λ j. ((sym (same_view c) j, sym c.deref-2.ensures.value j), (sym (to_z-of_z w64 c.fewer.result fits) j, sym (event_is c) j)))
     (served c c.fewer.result (ap (λ (n : ℕ). c.fewer.result +ℤ pos n) (sym (count_is c)) ∙ c.fewer.ensures)).1
 
-pub returns-clause-event : goal.returns-clause-event
-returns-clause-event c =
-    let a = c.args.asking.now in
-    let rows = c.args.locked.part.rows.items in
-    let n : c.len-count.result ≡ length c.args.left.now.gone.items = c.len-count.ensures ∙ (search rules) in
-    let m : c.len-after.result ≡ length c.args.left.now.part.rows.items = c.len-after.ensures ∙ (search rules) in
-    let before = (λ j. m j + n j) ∙ rows_before rows c.args.left.now c.requires.left in
-    let after = m ∙ pairs_after rows c.args.left.now c.requires.left in
-    λ j. record { pass = a.pass; txn = a.txn; deed = Join a.tree (before j) (after j) }
+pub returns-clause-made : goal.returns-clause-made
+returns-clause-made c =
+    let s = c.pool.new.self in
+    let v : View = knows c.args.locked.pass in
+    let u : View = knows s.pass in
+    let w : View = knows c.finish-pass.result.0 in
+    let a : Asking = c.args.asking.now in
+    let kept = c.pool.ensures.kept in
+    let left = c.requires.left in
+    let plan : List RowImage = c.deref-2.result.now in
+    let gone : ℕ = c.len-count.result in
+    let stay : ℕ = c.len-kept.result in
+    let old : List PartRow = c.args.locked.part.rows.items in
+    let rows : List PartRow = s.part.rows.items in
+    let pairs : List Pair = map row_pair rows in
+    let rows_is : rows ≡ old = ap (λ (p : Part). p.rows.items) kept.4 in
+    let asked : s.asked ≡ whole = kept.2 ∙ c.requires.anchor.1 in
+    let top : s.held ≡ s.tree = kept.3 ∙ c.requires.anchor.0 ∙ sym kept.1 in
+    let tree : a.tree ≡ s.tree = c.requires.asking.1 ∙ sym kept.1 in
+    let lt : s.tree < u.plan.trees = subst (λ (k : YardPlan). s.tree < k.trees) (sym s.of.0.1) s.of.2 in
+    let closed : IsClosed s.asked rows s.part.hangs.items =
+    subst (λ (x : Interval × Part). IsClosed x.0 x.1.rows.items x.1.hangs.items) (λ j. (sym kept.2 j, sym kept.4 j)) c.requires.closed in
+    let joined_is : map row_pair c.args.left.now.part.rows.items ≡ joined [] pairs =
+    left.pairs ∙ ap (λ (rs : List PartRow). joined [] (map row_pair rs)) (sym rows_is) in
+    let same : knows c.image-pool.new.self.pass ≡ u = c.image-pool.ensures.same.1 ∙ c.image-stays.ensures.same.1 in
+    let gone_is : gone ≡ length c.args.left.now.gone.items = c.len-count.ensures ∙ (search rules) in
+    let stay_is : stay ≡ length c.args.left.now.part.rows.items = c.len-kept.ensures ∙ (search rules) in
+    let before : stay + gone ≡ length pairs =
+    (λ j. stay_is j + gone_is j)
+    ∙ (rows_before old c.args.left.now left ∙ (ap (λ (rs : List PartRow). length rs) (sym rows_is) ∙ sym (length-map rows row_pair))) in
+    let after : stay ≡ length (joined [] pairs) =
+    stay_is ∙ (sym (length-map c.args.left.now.part.rows.items row_pair) ∙ ap (λ (ps : List Pair). length ps) joined_is) in
+    let listed : c.in-Ok.pairs ≡ held_in a.tree (map row_pair c.args.left.now.part.rows.items) = search rules in
+    noted v u w a plan (record { place = c.finish-pass.result.1; tree = a.tree; before = stay + gone; after = stay; pairs = c.in-Ok.pairs }) pairs
+    c.pool.ensures.same.1
+    (λ log stood. subst (λ (t : ℕ). pairs ≡ (tree_at (after_log (plain u.plan) log) t).pairs) (sym tree)
+    (whole_tree_has_rows u s.tree s.asked s.held rows s.part.hangs.items (pool_rows u.plan.trees s.pool) log c.pool.ensures.locked closed asked lt top
+    stood))
+    (subst (λ (x : View × Event). Makes x.0 w plan x.1 c.finish-pass.result.1) (λ j. (same j, c.join_event-event.ensures j)) c.finish-pass.ensures.made)
+    refl before after (listed ∙ ap (λ (ps : List Pair). held_in a.tree ps) joined_is)

@@ -1,15 +1,16 @@
-use Rattle.std.proofs.Common.{[], ◌<◌, ◌∙◌, sym, ap, subst, List, map, replicate, ℕ, Result, Ok, Err, IfOk}
+use Rattle.std.proofs.Common.{rules, ◌≡◌, length, [], ◌<◌, ◌∙◌, sym, ap, subst, List, map, replicate, ℕ, Result, Ok, Err, IfOk}
 use Rattle.lt_seq.specs.declared.plan.YardPlan.{YardPlan}
 use Rattle.lt_seq.specs.Pairs.{IsLawful}
 use Rattle.lt_forest.specs.Parts.{row_pair}
 use Rattle.lt_forest.specs.declared.part.PartRow.{PartRow}
 use Rattle.lt_forest.specs.declared.part.Part.{Part}
-use Rattle.lt_rows.specs.declared.image.RowImage.{RowImage as Image}
 use Rattle.lt_rows.specs.declared.view.View.{View}
 use Rattle.lt_rows.specs.Handles.{knows}
-use Rattle.lt_tree.specs.States.{OnlyRows}
-use Rattle.lt_tree.proofs.ViewLaws.{rows_on}
-use Rattle.lt_locktree.specs.Makes.{Makes}
+use Rattle.lt_locktree.specs.Rejoined.{IsRejoined}
+use Rattle.lt_locktree.specs.declared.asking.Asking.{Asking}
+use Rattle.lt_locktree.specs.Deeds.{MakesJoin}
+use Rattle.lt_locktree.proofs.JoinNotes.{join_on}
+use Rattle.lt_locktree.proofs.NoneJoined.{none_joined}
 use Rattle.lt_locktree.proofs.GrantedRuns.{rows_lawful}
 use Rattle.lt_locktree.proofs.GrownServed.{hangs_between}
 use Rattle.lt_locktree.proofs.JoinServed.{all_zero}
@@ -41,8 +42,29 @@ pub returns-clause-made : goal.returns-clause-made
 returns-clause-made c =
     let v : View = knows c.args.locked.pass in
     let w : View = knows c.widen_whole.new.locked.pass in
-    ok_map c.join_rows.result
-    (λ r. (u : View) × (plan : List Image) × OnlyRows w u × Makes u (knows r.0) plan r.1.event r.1.place)
-    (λ r. (u : View) × (plan : List Image) × OnlyRows v u × Makes u (knows r.0) plan r.1.event r.1.place)
-    (λ r (u, plan, only, makes). (u, plan, rows_on v w u c.in_default.ensures.same.1 only, makes))
-    c.join_rows.ensures.made
+    let a : Asking = c.args.asking.now in
+    ok_map c.join_rows.result (λ r. MakesJoin w (knows r.0) a r.1) (λ r. MakesJoin v (knows r.0) a r.1)
+    (λ r. join_on v w (knows r.0) a r.1 c.in_default.ensures.same.1) c.join_rows.ensures.made
+
+pub returns-then-is_empty-clause-made : goal.returns-then-is_empty-clause-made
+returns-then-is_empty-clause-made c =
+    let v : View = knows c.args.locked.pass in
+    let w : View = knows c.widen_whole.new.locked.pass in
+    let a : Asking = c.args.asking.now in
+    ok_map c.join_none.result (λ r. MakesJoin w (knows r.0) a r.1) (λ r. MakesJoin v (knows r.0) a r.1)
+    (λ r. join_on v w (knows r.0) a r.1 c.in_default.ensures.same.1) c.join_none.ensures.made
+
+pub join_none-requires-clause-bare : goal.join_none-requires-clause-bare
+join_none-requires-clause-bare c =
+    let s = c.widen_whole.new.locked in
+    let e = c.in_default.ensures in
+    all_zero s.part.hangs.items e.whole
+    ∙ ap (λ (n : ℕ). replicate n 0)
+    (hangs_between s.pass s.table.now.plan s.tree s.asked s.held s.part.rows.items s.part.hangs.items [] e.locked e.closed s.of.0.1 s.of.2)
+
+pub join_none-requires-clause-none : goal.join_none-requires-clause-none
+join_none-requires-clause-none c =
+    let s = c.widen_whole.new.locked in
+    let rows_is : c.deref.result.now ≡ s.part.rows.items = c.deref.ensures.value ∙ ap (λ (p : Part). p.rows.items) c.part.ensures in
+    let empty : length c.in-Ok.after.gone.items ≡ 0 = search rules in
+    none_joined s.part.rows.items c.in-Ok.after (subst (λ (rs : List PartRow). IsRejoined rs c.in-Ok.after) rows_is c.in-Ok.ensures) empty
