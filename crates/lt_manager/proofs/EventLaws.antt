@@ -64,7 +64,7 @@ module _ (u w : View) (old : PassView) (mine : List Receipt) (notes : List JoinN
           ∙ (sym (one_call u w txn deed place made one pass) ∙ ap (λ (m : ℕ). calls_from u.plan.first (m - 1) w.front) (sym made.same.1));
     }
 
-    event_is : receipt.event ≡ event_after (plain u.plan) before old.number txn (question deed)
+    pub event_is : receipt.event ≡ event_after (plain u.plan) before old.number txn (question deed)
     event_is =
         let replies = (next_event u w txn deed place made).replies in
         let there = λ (t : ℕ). tree_at (after (plain u.plan) before) t in
@@ -73,7 +73,7 @@ module _ (u w : View) (old : PassView) (mine : List Receipt) (notes : List JoinN
         λ i. record { pass = watches.goes.number i; txn = txn; deed = deed_is i }
 
     -- and then it made its event
-    pub happens : notes' ≡ noted (plain u.plan) before (question deed) old.notes
+    unfoldable pub happens : notes' ≡ noted (plain u.plan) before (question deed) old.notes
         → Happens (plain u.plan) old (view_with w (mine ++ receipt ∷ []) notes') txn (question deed) receipt
     happens are = record {
       seen = u.front;
@@ -104,7 +104,7 @@ module _ (u w : View) (old : PassView) (mine : List Receipt) (notes : List JoinN
         sound_on u w leaves.rest mine notes one pass leaves.same.0 leaves.same.1 leaves.front leaves.own
         (subst (IsLegal (plain u.plan)) leaves.front (leaves.legal watches.goes.sound.legal)) watches.goes.sound
 
-    cause_is : (fault : Fault) → IsRefused u w fault → Caused (plain u.plan) old (view_with w mine notes) fault u.front
+    pub cause_is : (fault : Fault) → IsRefused u w fault → Caused (plain u.plan) old (view_with w mine notes) fault u.front
     cause_is OutOfMemory cause = tt
     cause_is (Busy row holder) cause = record {
       room = room;
@@ -116,7 +116,7 @@ module _ (u w : View) (old : PassView) (mine : List Receipt) (notes : List JoinN
     cause_is (HistoryFull place) cause = absurd cause
     cause_is (OutOfLocks place used) cause = absurd cause
 
-    pub left_off : FaultAt (plain u.plan) old (view_with w mine notes) (Caused (plain u.plan) old (view_with w mine notes) fault)
+    unfoldable pub left_off : FaultAt (plain u.plan) old (view_with w mine notes) (Caused (plain u.plan) old (view_with w mine notes) fault)
     left_off = record {
       seen = u.front;
       looked = watches.goes.front;

@@ -1,3 +1,11 @@
 pub mod WatchLaws
 pub mod PassLaws
 pub mod EventLaws
+pub mod ReceiptLaws
+pub mod BehindLaws
+pub mod JoinedLaws
+pub mod LearnLaws
+pub mod BuildLaws
+pub mod OriginLaws
+pub mod CloseLaws
+pub mod AskLaws

@@ -1,5 +1,5 @@
 -- What a pass has seen and done after a call.
-use Rattle.std.proofs.Common.{◌≡◌, ℕ, ◌+◌, ◌-◌, ◌<◌, ◌≤◌, Bool, true, false, List, [], ◌∷◌, ◌++◌, length, refl, sym, ap, ◌∙◌, subst, arith, append-nil}
+use Rattle.std.proofs.Common.{◌≡◌, ℕ, ◌≤◌, List, ◌++◌, refl, sym, ap, ◌∙◌, subst, arith, append-nil}
 use Rattle.lt_seq.specs.declared.event.Event.{Event}
 use Rattle.lt_seq.specs.declared.event.Look.{Look}
 use Rattle.lt_seq.specs.declared.event.Receipt.{Receipt}
@@ -16,7 +16,7 @@ use Rattle.lt_rows.proofs.LessonLaws.{history_is_legal}
 use Rattle.lt_manager.specs.Views.{view_with}
 use Rattle.lt_manager.proofs.WatchLaws.{sound_on}
 
-used_is : (k : YardPlan) (log : List Event) → used_after k log ≡ used (after (plain k) log)
+pub used_is : (k : YardPlan) (log : List Event) → used_after k log ≡ used (after (plain k) log)
 unfolding used_after
 used_is k log = refl
 

@@ -1,2 +1,5 @@
 pub mod Views
+pub mod Answers
 pub mod Laws
+pub mod Closings
+pub mod Behind

@@ -1,10 +1,17 @@
 -- What contracts see of a pass.
-use Rattle.std.specs.Prelude.{ℕ, ◌-◌, List, ◌∷◌}
+use Rattle.std.specs.Prelude.{◌≡◌, ℕ, ◌-◌, List, ◌∷◌}
+use Rattle.atomic_table.specs.Seated.{TableId}
+use Rattle.lt_seq.specs.declared.plan.YardPlan.{YardPlan}
 use Rattle.lt_seq.specs.declared.event.Receipt.{Receipt}
 use Rattle.lt_seq.specs.declared.event.JoinNote.{JoinNote}
+use Rattle.lt_seq.specs.History.{IsLegal}
 use Rattle.lt_seq.specs.SeqPass.{plain}
-use Rattle.lt_seq.specs.Yard.{PassView, Origin, origin_of, IsSound}
+use Rattle.lt_seq.specs.Yard.{PassView, NoteView, Origin, origin_of, IsSound}
 use Rattle.lt_rows.specs.declared.view.View.{View}
+use Rattle.lt_rows.specs.declared.note.RowNote.{RowNote}
+use Rattle.lt_rows.specs.Passes.{view}
+use Rattle.lt_rows.specs.Handles.{IsNoteOf}
+use Rattle.lt_locktree.specs.declared.locktree.Locktree.{Locktree}
 use Rattle.lt_locktree.specs.declared.tree_pass.TreePass.{TreePass}
 use Rattle.lt_locktree.specs.Calls.{sees}
 
@@ -30,15 +37,39 @@ view_with v mine notes = record {
 abbrev pub view_of : Kept → PassView
 view_of p = view_with (sees p.pass) p.mine p.notes
 
--- what tells a table's passes from those of others
-abbrev pub identity_in : TreePass → List ℕ
-identity_in p =
-    let id = p.pass.place.table_id in
-    id.words ∷ id.slots ∷ id.views_name ∷ id.atom ∷ id.block ∷ id.offset ∷ id.slot_names
+-- what tells a table from others
+abbrev pub identity_of : TableId → List ℕ
+identity_of id = id.words ∷ id.slots ∷ id.views_name ∷ id.atom ∷ id.block ∷ id.offset ∷ id.slot_names
 
 abbrev pub origin_in : Kept → Origin
-origin_in p = origin_of (identity_in p.pass) (plain (sees p.pass).plan)
+origin_in p = origin_of (identity_of p.pass.pass.place.table_id) (plain (sees p.pass).plan)
+
+-- the origin of the passes and notes of a table
+abbrev pub origin_at : Locktree → Origin
+origin_at t = origin_of (identity_of t.rows.table.shared.table_id) (plain t.rows.plan)
+
+abbrev pub IsPassOfTable : Locktree → Kept → Type 0
+IsPassOfTable t p = origin_in p ≡ origin_at t
 
 -- its front is a legal history, and its receipts are of its own events there
 abbrev pub IsKept : Kept → Type 0
 IsKept p = IsSound (plain (sees p.pass).plan) (view_of p)
+
+-- a note with the plan of its table
+pub record Noted : Type 0 where
+  pub note : RowNote
+  pub plan : YardPlan
+
+abbrev pub told_by : Noted → NoteView
+told_by n = record { rights = n.note.rights; front = (view n.note.place).front }
+
+abbrev pub note_origin : Noted → Origin
+note_origin n = origin_of (identity_of n.note.place.table_id) (plain n.plan)
+
+-- its front is a legal history
+abbrev pub IsNoted : Noted → Type 0
+IsNoted n = IsLegal (plain n.plan) (view n.note.place).front
+
+-- the note was made for this table
+abbrev pub IsNoteOfTable : Locktree → Noted → Type 0
+IsNoteOfTable t n = IsNoteOf t.rows n.note × (n.plan ≡ t.rows.plan)

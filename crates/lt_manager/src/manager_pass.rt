@@ -41,6 +41,7 @@ impl ManagerPass {
     ghost use Rattle.std.specs.Prelude.{◌≡◌, ◌<◌, true, OnOk, IfOk, IfErr};
     ghost use Rattle.lt_seq.specs.SeqPass.{plain};
     ghost use Rattle.lt_seq.specs.Yard.{shows, Watches, Caused, place_after, places_end};
+    ghost use Rattle.lt_seq.specs.Alone.{AloneCaused};
     ghost use Rattle.lt_rows.specs.Views.{is_near, is_below};
     ghost use Rattle.lt_locktree.specs.Calls.{sees, IsOfTable, StaysOf};
     ghost use Rattle.lt_manager.specs.Views.{view_of};
@@ -68,6 +69,7 @@ impl ManagerPass {
         ensures watches { Watches (plain (sees self.old.pass).plan) (view_of self.old) (view_of self.new) }
         ensures err { IfErr result (λ fault. Caused (plain (sees self.old.pass).plan) (view_of self.old) (view_of self.new) fault
             (sees self.new.pass).front) }
+        ensures full { IfErr result (AloneCaused (plain (sees self.old.pass).plan) (sees self.new.pass).front) }
     {
         let look = self.look(table);
         if look.place >= PLACES_END {

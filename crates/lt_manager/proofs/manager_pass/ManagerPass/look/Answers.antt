@@ -1,4 +1,4 @@
-use Rattle.std.proofs.Common.{◌≡◌, sym, ap, subst, ◌∙◌, arith}
+use Rattle.std.proofs.Common.{◌≡◌, subst, arith}
 use Rattle.lt_seq.specs.SeqPass.{plain}
 use Rattle.lt_seq.specs.Yard.{Watches, shows}
 use Rattle.lt_locktree.specs.Calls.{sees}

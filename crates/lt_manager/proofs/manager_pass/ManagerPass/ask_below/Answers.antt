@@ -1,0 +1,44 @@
+use Rattle.std.proofs.Common.{◌≡◌, ◌<◌, ◌∙◌, ap, rules, arith}
+use Rattle.lt_seq.specs.declared.event.Deed.TheVariants.{Ask}
+use Rattle.lt_seq.specs.declared.event.Look.{Look}
+use Rattle.lt_seq.specs.declared.event.Reply.TheVariants.{Granted}
+use Rattle.lt_seq.specs.declared.plan.YardPlan.{YardPlan}
+use Rattle.lt_seq.specs.Table.{used}
+use Rattle.lt_seq.specs.History.{after}
+use Rattle.lt_seq.specs.SeqPass.{plain}
+use Rattle.lt_locktree.specs.Calls.{sees}
+use Rattle.lt_manager.specs.Views.{view_of}
+use Rattle.lt_manager.proofs.AskLaws.{is_licensed, last_fails, out_of_locks, asks_last}
+use Rattle.lt_manager.proofs.manager_pass.ManagerPass.ask_below.Goals as goal
+
+pub returns-in_err-look-clause-answer : goal.returns-in_err-look-clause-answer
+returns-in_err-look-clause-answer c =
+    let deed = Ask c.args.tree c.args.range.now Granted in
+    last_fails c.args.self.now c.look_for_place.new.self c.args.bar c.args.txn deed c.look_for_place.ensures.watches
+    c.in_err-look.field-0.0 c.from_residual.result (search rules) c.in_err-look.ensures.full
+
+pub returns-then-look-bar-clause-answer : goal.returns-then-look-bar-clause-answer
+returns-then-look-bar-clause-answer c =
+    let deed = Ask c.args.tree c.args.range.now Granted in
+    let seen = c.in_ok-look.ensures.seen in
+    out_of_locks c.args.self.now c.look_for_place.new.self c.args.bar c.args.txn deed c.look_for_place.ensures.watches
+    c.in_ok-look.look.place c.in_ok-look.look.used (ap (λ (l : Look). l.place) seen)
+    (omega (arith, ap (λ (l : Look). l.place) seen, c.in_ok-look.ensures.room)) (ap (λ (l : Look). l.used) seen) c.if-look-bar.true
+
+pub ask_at-requires-clause-fresh : goal.ask_at-requires-clause-fresh
+ask_at-requires-clause-fresh c =
+    let plan : YardPlan = (sees c.args.self.now.pass).plan in
+    let front = (sees c.look_for_place.new.self.pass).front in
+    let limit : plan.limit ≡ c.args.table.now.rows.plan.limit = ap (λ (k : YardPlan). k.limit) c.requires.of.1 in
+    let below : used (after (plain plan) front) < plan.limit =
+    omega (arith, c.if-look-bar.false, c.requires.bar, ap (λ (l : Look). l.used) c.in_ok-look.ensures.seen, limit) in
+    (c.in_ok-look.ensures.fresh, c.look_for_place.ensures.licensed ∙ is_licensed plan front c.in_ok-look.ensures.room below)
+
+pub returns-clause-answer : goal.returns-clause-answer
+returns-clause-answer c =
+    let deed = Ask c.args.tree c.args.range.now Granted in
+    let plan : YardPlan = (sees c.args.self.now.pass).plan in
+    let below : used (after (plain plan) (sees c.look_for_place.new.self.pass).front) < c.args.bar =
+    omega (arith, c.if-look-bar.false, ap (λ (l : Look). l.used) c.in_ok-look.ensures.seen) in
+    asks_last c.args.self.now c.look_for_place.new.self c.args.bar c.args.txn deed c.look_for_place.ensures.watches
+    (view_of c.ask_at.new.self) c.ask_at.result c.look_for_place.ensures.of.1.0 below c.ask_at.ensures.answer

@@ -1,0 +1,29 @@
+//! What one pass of the lock table hands to another.
+use lt_rows::RowNote;
+use lt_seq::{Note, YardPlan};
+use std::marker::Model;
+
+/// A note that one pass of a `Manager` hands to another. It carries rights, and the history as its pass had seen it.
+#[derive(Drop)]
+pub struct ManagerNote {
+    pub(crate) note: RowNote,
+    pub(crate) plan: YardPlan,
+}
+
+impl Model for ManagerNote {
+    ghost use Rattle.lt_manager.specs.Views.{Noted, IsNoted};
+
+    ghost Value = { Noted };
+
+    ghost view = { λ n. record { note = n.note; plan = n.plan } };
+
+    ghost invariant = { λ n. IsNoted (record { note = n.note; plan = n.plan }) };
+}
+
+impl Note for ManagerNote {
+    ghost use Rattle.lt_manager.specs.Views.{note_origin, told_by};
+
+    ghost origin = { note_origin };
+
+    ghost view = { told_by };
+}
