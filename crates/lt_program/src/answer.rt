@@ -6,7 +6,7 @@ ghost use Rattle.lt_program.specs.Answers.{IsAnswer, HasTold, IsToldBy, IsToldOr
 use crate::refusal::refusal_line;
 use lt_history::print;
 use lt_runner::run_serial;
-use lt_seq::SeqYard;
+use lt_manager::Manager;
 use lt_trace::{Trace, TraceFault, read};
 use lt_watch::Tells;
 use std::alloc::{AllocError, Global};
@@ -43,6 +43,6 @@ fn serial_text<T: Tells>(alloc: Global, trace: &Trace, watch: &mut T) -> Result<
     ensures told { OnOk result (HasTold trace.now (T.logs watch.old) (T.logs watch.new)) }
     ensures short { OnErr result ((T.logs watch.new ≡ T.logs watch.old) ⊎ HasTold trace.now (T.logs watch.old) (T.logs watch.new)) }
 {
-    let run = run_serial::<SeqYard, T>(alloc, trace, 0, watch)?;
+    let run = run_serial::<Manager, T>(alloc, trace, 0, watch)?;
     print(alloc, &run.receipts, &run.outcomes, run.places, run.used)
 }

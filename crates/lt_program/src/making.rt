@@ -6,7 +6,7 @@ ghost use Rattle.lt_program.specs.Answers.{made_text, sum_text};
 use crate::words::Recipe;
 use lt_history::summary;
 use lt_runner::run_serial;
-use lt_seq::SeqYard;
+use lt_manager::Manager;
 use lt_trace::{make, write};
 use lt_watch::NoWatches;
 use std::alloc::{AllocError, Global};
@@ -26,6 +26,6 @@ pub(crate) fn sum_text(alloc: Global, recipe: &Recipe) -> Result<Vec<u8>, AllocE
     ensures { IfOk result (λ text. text.items ≡ sum_text recipe.now) }
 {
     let trace = make(alloc, recipe.seed, recipe.txns, recipe.lines)?;
-    let run = run_serial::<SeqYard, NoWatches>(alloc, &trace, 0, &mut NoWatches)?;
+    let run = run_serial::<Manager, NoWatches>(alloc, &trace, 0, &mut NoWatches)?;
     summary(alloc, &run.receipts, &run.outcomes)
 }
