@@ -60,4 +60,6 @@ pub use standing::stand_pairs;
 pub use tree_pass::TreePass;
 
 #[cfg(test)]
+mod row_tests;
+#[cfg(test)]
 mod tests;

@@ -24,7 +24,10 @@ fn plan(buffer: u64) -> YardPlan
 }
 
 /// A table with its one pass.
-fn one_pass(alloc: Global, plan: &YardPlan) -> Result<Option<(Locktree, TreePass)>, AllocError>
+pub(crate) fn one_pass(
+    alloc: Global,
+    plan: &YardPlan,
+) -> Result<Option<(Locktree, TreePass)>, AllocError>
     requires plan { IsPlan plan.now }
     ensures of { IfOk result (λ o. IfSome o (λ r. IsOfTable r.0 r.1 × (r.0.rows.plan ≡ plan.now))) }
 {
@@ -37,7 +40,7 @@ fn one_pass(alloc: Global, plan: &YardPlan) -> Result<Option<(Locktree, TreePass
 }
 
 /// Whether the pass may make an event, and take a row.
-fn may_ask(table: &Locktree, pass: &mut TreePass) -> bool
+pub(crate) fn may_ask(table: &Locktree, pass: &mut TreePass) -> bool
     requires of { IsOfTable table.now pass.old }
     ensures of { StaysOf table.now pass.old pass.new }
     ensures room { result ≡ true → ((sees pass.new).fresh ≡ true) × ((sees pass.new).licensed ≡ true) × (0 < (sees pass.new).rights) }
@@ -46,8 +49,13 @@ fn may_ask(table: &Locktree, pass: &mut TreePass) -> bool
     look.place < 1 << 39 && look.used < table.plan().limit && pass.rights() > 0
 }
 
-/// What an ask for the whole range comes to: `Granted`, or how many hold it.
-fn asked(table: &Locktree, pass: &mut TreePass, txn: u64) -> Option<Reply>
+/// What an ask for the range comes to.
+pub(crate) fn asked(
+    table: &Locktree,
+    pass: &mut TreePass,
+    txn: u64,
+    range: &KeyRange,
+) -> Option<Reply>
     requires of { IsOfTable table.now pass.old × (0 < table.now.rows.plan.trees) }
     requires txn { 0 < txn }
     ensures of { StaysOf table.now pass.old pass.new }
@@ -55,7 +63,7 @@ fn asked(table: &Locktree, pass: &mut TreePass, txn: u64) -> Option<Reply>
     if !may_ask(table, pass) {
         return None;
     }
-    match table.ask(pass, txn, 0, &KeyRange::whole()) {
+    match table.ask(pass, txn, 0, range) {
         Ok(asked) => Some(asked.copy),
         Err(_) => None,
     }
@@ -68,8 +76,13 @@ fn an_ask_is_granted_and_held_until_the_range_is_freed(rt: HostRuntime) -> Resul
         return Ok(());
     };
     let mut pass = pass;
-    assert!(rt; matches!(asked(&table, &mut pass, 1), Some(Reply::Granted)));
-    match asked(&table, &mut pass, 2) {
+    assert!(rt;
+        matches!(
+            asked(&table, &mut pass, 1, &KeyRange::whole()),
+            Some(Reply::Granted)
+        )
+    );
+    match asked(&table, &mut pass, 2, &KeyRange::whole()) {
         Some(Reply::HeldBy(owners)) => assert!(rt; owners.as_slice() == [1].as_slice()),
         _ => assert!(rt; false, "it is not held"),
     }
@@ -85,7 +98,12 @@ fn an_ask_is_granted_and_held_until_the_range_is_freed(rt: HostRuntime) -> Resul
             Err(_) => assert!(rt; false, "no answer"),
         }
     }
-    assert!(rt; matches!(asked(&table, &mut pass, 2), Some(Reply::Granted)));
+    assert!(rt;
+        matches!(
+            asked(&table, &mut pass, 2, &KeyRange::whole()),
+            Some(Reply::Granted)
+        )
+    );
     Ok(())
 }
 
@@ -96,7 +114,17 @@ fn asks_of_a_lone_transaction_go_into_its_buffer(rt: HostRuntime) -> Result<(), 
         return Ok(());
     };
     let mut pass = pass;
-    assert!(rt; matches!(asked(&table, &mut pass, 1), Some(Reply::Buffered)));
-    assert!(rt; matches!(asked(&table, &mut pass, 1), Some(Reply::Buffered)));
+    assert!(rt;
+        matches!(
+            asked(&table, &mut pass, 1, &KeyRange::whole()),
+            Some(Reply::Buffered)
+        )
+    );
+    assert!(rt;
+        matches!(
+            asked(&table, &mut pass, 1, &KeyRange::whole()),
+            Some(Reply::Buffered)
+        )
+    );
     Ok(())
 }

@@ -1,0 +1,10 @@
+use Rattle.lt_rows.specs.Handles.{knows, IsPassOf, IsSamePass}
+use Rattle.lt_tree.specs.States.{HoldsNone}
+use Rattle.lt_locktree.proofs.row_tests.shape.Given as goal
+
+-- the pass stays of the table, and holds no row between two levels
+abbrev pub invariant-loop-depth : goal.invariant-loop-depth
+invariant-loop-depth l = record {
+  of : IsPassOf l.table l.pass × IsSamePass l.fn.pass l.pass;
+  none : HoldsNone (knows l.pass);
+}
