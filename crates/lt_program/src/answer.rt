@@ -5,8 +5,8 @@ ghost use Rattle.lt_program.specs.Answers.{IsAnswer, HasTold, IsToldBy, IsToldOr
 
 use crate::refusal::refusal_line;
 use lt_history::print;
-use lt_runner::run_serial;
 use lt_manager::Manager;
+use lt_runner::run_serial;
 use lt_trace::{Trace, TraceFault, read};
 use lt_watch::Tells;
 use std::alloc::{AllocError, Global};

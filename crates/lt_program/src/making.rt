@@ -5,8 +5,8 @@ ghost use Rattle.lt_program.specs.Answers.{made_text, sum_text};
 
 use crate::words::Recipe;
 use lt_history::summary;
-use lt_runner::run_serial;
 use lt_manager::Manager;
+use lt_runner::run_serial;
 use lt_trace::{make, write};
 use lt_watch::NoWatches;
 use std::alloc::{AllocError, Global};
