@@ -48,7 +48,7 @@ all_at P [] i d inside all = absurd (omega arith)
 all_at P (s ∷ ss) zero d inside all = all.0
 all_at P (s ∷ ss) (suc i) d inside all = all_at P ss i d (omega arith) all.1
 
-all_put : (P : Seat → Type 0) (seats : List Seat) (i : ℕ) (is : Seat) → AllByRecursion P seats → P is → AllByRecursion P (slice_set seats i is)
+pub all_put : (P : Seat → Type 0) (seats : List Seat) (i : ℕ) (is : Seat) → AllByRecursion P seats → P is → AllByRecursion P (slice_set seats i is)
 all_put P [] i is all one = tt
 all_put P (s ∷ ss) zero is all one = (one, all.1)
 all_put P (s ∷ ss) (suc i) is all one = (all.0, all_put P ss i is all.1 one)

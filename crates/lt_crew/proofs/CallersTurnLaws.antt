@@ -77,7 +77,7 @@ seat_paid setting old between new at were seats are d inside paid p =
     subst (λ (ss : List Seat). ArePaid setting old new were ss 0) (sym p.put)
     (omega (arith, paid, p.events, sum_set (work setting) seats at p.was p.is inside, ap (work setting) (p.at p.was)))
 
-seat_there : (seats : List Seat) (i : ℕ) → i < length seats → Seat
+pub seat_there : (seats : List Seat) (i : ℕ) → i < length seats → Seat
 seat_there [] i inside = absurd (omega arith)
 seat_there (s ∷ ss) zero inside = s
 seat_there (s ∷ ss) (suc i) inside = seat_there ss i (omega arith)
@@ -115,7 +115,7 @@ plays_on setting old between new at were seats are inside so_far paid plays = by
 
 -- Asks.
 
-times_less : (i n k : ℕ) → i < n → i * k + k ≤ n * k
+pub times_less : (i n k : ℕ) → i < n → i * k + k ≤ n * k
 times_less i zero k less = absurd (omega arith)
 times_less zero (suc n) k less = omega arith
 times_less (suc i) (suc n) k less = omega (arith, times_less i n k (omega arith))
@@ -154,7 +154,7 @@ no_step_back setting registered old new was (Err (Busy row holder)) has cost = a
 no_step_back setting registered old new was (Err (HistoryFull place)) has cost = absurd has
 no_step_back setting registered old new was (Err (OutOfLocks place rows)) has cost = omega (arith, cost.1)
 
-answered_now : (setting : Setting) (old new : PassView) (registry registry_now : List Wish) (at : ℕ) (seats are : List Seat) →
+pub answered_now : (setting : Setting) (old new : PassView) (registry registry_now : List Wish) (at : ℕ) (seats are : List Seat) →
     (p : IsAskedAt setting old new registry registry_now at seats are) → HasAnswerNow p.was p.is
 answered_now setting old new registry registry_now at seats are p = record {
   wish = p.asked.wish;

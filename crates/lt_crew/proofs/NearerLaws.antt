@@ -25,7 +25,7 @@ use Rattle.lt_crew.proofs.RoundsCrewLaws.{rounds_stay_crew}
 
 -- Steps that are left.
 
-steps_at : (seat : Seat) (b : Bool) → is_some seat.turn.outcome ≡ b →
+pub steps_at : (seat : Seat) (b : Bool) → is_some seat.turn.outcome ≡ b →
     steps seat ≡ (if b then some_left seat.turn.releases else 2 * length seat.turn.lines - (if seat.turn.waits then 1 else 0))
 steps_at seat b e =
     ap (λ (c : Bool). if c then some_left seat.turn.releases else 2 * length seat.turn.lines - (if seat.turn.waits then 1 else 0)) e
@@ -98,7 +98,7 @@ out_nearer setting was between is fit goes some out lines turned = by_still out.
 
 module _ (setting : Setting) (before history : List Event) (were are : ℕ → List Seat) (round : IsRound setting [] before history were are)
     (all_out : ArePlayedOut setting were are) where
-  out_at : (was between : Seat) (pass i : ℕ) → pass < setting.plan.passes → i < length (were pass) → was ≡ get_or (were pass) i was →
+  pub out_at : (was between : Seat) (pass i : ℕ) → pass < setting.plan.passes → i < length (were pass) → was ≡ get_or (were pass) i was →
       between ≡ get_or (are pass) i was → IsPlayedOut was between
   out_at was between pass i there inside at put =
       subst (λ (s : Seat). IsPlayedOut s between) (sym at)

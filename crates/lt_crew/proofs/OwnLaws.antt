@@ -145,3 +145,23 @@ is_in_numbers (s ∷ ss) (suc i) d inside = or_later (s.turn.txn == (get_or ss i
     or_later : (b c : Bool) → c ≡ true → (b || c) ≡ true
     or_later true c e = refl
     or_later false c e = e
+
+-- what is of none of these has no receipt among theirs
+pub own_out : (txns : List ℕ) (txn : ℕ) (receipts : List Receipt) → (IsTrue (is_in txn txns) → ⊥) → AreDealt txns receipts → own_in txn receipts ≡ []
+own_out txns txn [] new_one all = refl
+own_out txns txn (r ∷ rs) new_one all =
+    on_false (r.event.txn == txn) (r ∷ own_in txn rs) (own_in txn rs)
+    (neq_of r.event.txn txn (λ same. new_one (subst (λ (n : ℕ). IsTrue (is_in n txns)) same all.0)))
+    ∙ own_out txns txn rs new_one all.1
+
+is_in_wider : (n : ℕ) (xs ys : List ℕ) → IsTrue (is_in n xs) → IsTrue (is_in n (xs ++ ys))
+is_in_wider n [] ys there = absurd (false≢true there)
+is_in_wider n (x ∷ xs) ys there = by_test (x == n) (is_in_wider n xs ys) there
+  where
+    by_test : (b : Bool) → (IsTrue (is_in n xs) → IsTrue (is_in n (xs ++ ys))) → IsTrue (b || is_in n xs) → IsTrue (b || is_in n (xs ++ ys))
+    by_test true later there = refl
+    by_test false later there = later there
+
+pub dealt_wider : (txns more : List ℕ) (receipts : List Receipt) → AreDealt txns receipts → AreDealt (txns ++ more) receipts
+dealt_wider txns more [] all = tt
+dealt_wider txns more (r ∷ rs) all = (is_in_wider r.event.txn txns more all.0, dealt_wider txns more rs all.1)

@@ -1,5 +1,6 @@
 -- Lists whose elements are changed one by one.
-use Rattle.std.proofs.Common.{◌≡◌, ◌≢◌, ◌⊎◌, ℕ, ◌+◌, ◌≤◌, ◌<◌, List, length, get_or, set, refl, sym, ◌∙◌, arith, inl, inr}
+use Rattle.std.proofs.Common.{zero, suc, [], ◌∷◌, ◌++◌, ◌≡◌, ◌≢◌, ◌⊎◌, ℕ, ◌+◌, ◌≤◌, ◌<◌, List, map, length, get_or, set, refl, sym, ap₂, ◌∙◌, arith, inl, inr}
+use Rattle.std.specs.List.{All, AllByRecursion}
 use Rattle.std.proofs.lemmas.Bool.{cases_eq}
 use Rattle.std.proofs.lemmas.List.{get_or-set_same, get_or-set_other, length-set, get_or_default}
 use Rattle.lt_crew.specs.Workers.{UpTo, EachPair, AllBelow}
@@ -46,3 +47,26 @@ module _ {X : Type 0} where
 
   pub below_weaker : (P Q : X → Type 0) (i : ℕ) (xs : List X) → ((x : X) → P x → Q x) → AllBelow P i xs → AllBelow Q i xs
   below_weaker P Q i xs w a k d p q = w _ (a k d p q)
+
+  pub below_each : (P : X → Type 0) (n : ℕ) (xs : List X) → AllBelow P n xs → length xs ≤ n → AllByRecursion P xs
+  below_each P n [] a few = tt
+  below_each P n (x ∷ xs) a few = (
+    a 0 x (omega (arith, few)) (omega arith),
+    below_each P n xs (λ k d p q. a (suc k) d (omega (arith, q, few)) (omega (arith, q))) (omega (arith, few)),
+  )
+
+  pub all_more : (P : X → Type 0) (xs : List X) (x : X) → All P xs → P x → All P (xs ++ x ∷ [])
+  all_more P [] x all px zero d inside = px
+  all_more P [] x all px (suc k) d inside = absurd (omega (arith, inside))
+  all_more P (y ∷ ys) x all px zero d inside = all 0 d (omega arith)
+  all_more P (y ∷ ys) x all px (suc k) d inside = all_more P ys x (λ i e lt. all (suc i) e (omega (arith, lt))) px k d (omega (arith, inside))
+
+-- one element more was handed on, and is in a list of its own
+pub moved_on : {X Y : Type 0} (f : X → Y) (xs : List X) (x : X) (left rest all : List Y) → map f xs ++ left ≡ all → left ≡ f x ∷ rest →
+    map f (xs ++ x ∷ []) ++ rest ≡ all
+moved_on f [] x left rest all is next = sym next ∙ is
+moved_on f (y ∷ ys) x left rest [] is next = cc
+moved_on f (y ∷ ys) x left rest (z ∷ zs) is next =
+    let first : f y ≡ z = cc in
+    let later : map f ys ++ left ≡ zs = cc in
+    ap₂ (λ a bs. a ∷ bs) first (moved_on f ys x left rest zs later next)

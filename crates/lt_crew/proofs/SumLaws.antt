@@ -1,22 +1,15 @@
 -- Sums over transactions and over passes.
-use Rattle.std.proofs.Common.{◌≡◌, ◌≢◌, ◌⊎◌, ◌<◌, ◌==◌, inl, inr, eq-eqb, ℕ, zero, suc, ◌+◌, ◌≤◌, List, [], ◌∷◌, Bool, true, false, length, get_or, set, slice_set, refl, sym, ap, subst, ◌∙◌, arith}
+use Rattle.std.proofs.Common.{◌≡◌, ◌≢◌, ◌⊎◌, ◌<◌, ◌==◌, inl, inr, eq-eqb, ℕ, zero, suc, ◌+◌, ◌≤◌, List, [], ◌∷◌, Bool, true, false, length, refl, sym, ap, subst, ◌∙◌, arith}
 use Rattle.std.specs.List.{AllByRecursion}
 use Rattle.std.proofs.lemmas.Bool.{cases_eq}
 use Rattle.std.proofs.lemmas.Bool.Decides.{nat_tests}
 use Rattle.lt_seq.specs.declared.event.Event.{Event}
 use Rattle.lt_seq.specs.History.{IsLegal, calls_from}
 use Rattle.lt_seq.specs.Table.{Setting, opening}
-use Rattle.lt_seq.specs.Yard.{PassView}
 use Rattle.lt_runner.specs.TurnView.{Seat}
-use Rattle.lt_runner.specs.Work.{work, Spends}
 use Rattle.lt_runner.proofs.ChoiceLaws.{on_true, on_false}
-use Rattle.lt_crew.specs.Crew.{work_all, work_of, sum_to, SpendsAll}
+use Rattle.lt_crew.specs.Crew.{work_all, work_of, sum_to}
 use Rattle.lt_crew.proofs.OwnLaws.{all_passes}
-
-pub work_set : (setting : Setting) (seats : List Seat) (i : ℕ) (d is : Seat) → i < length seats → work_all setting (slice_set seats i is) + work setting (get_or seats i d) ≡ work_all setting seats + work setting is
-work_set setting [] i d is inside = absurd (omega arith)
-work_set setting (s ∷ ss) zero d is inside = omega arith
-work_set setting (s ∷ ss) (suc i) d is inside = omega (arith, work_set setting ss i d is (omega arith))
 
 -- Sums over the passes.
 
@@ -24,7 +17,7 @@ sum_none : (n : ℕ) → sum_to (λ (p : ℕ). 0) n ≡ 0
 sum_none zero = refl
 sum_none (suc n) = omega (arith, sum_none n)
 
-sum_same : (f g : ℕ → ℕ) (n : ℕ) → ((p : ℕ) → p < n → f p ≡ g p) → sum_to f n ≡ sum_to g n
+pub sum_same : (f g : ℕ → ℕ) (n : ℕ) → ((p : ℕ) → p < n → f p ≡ g p) → sum_to f n ≡ sum_to g n
 sum_same f g zero same = refl
 sum_same f g (suc n) same = omega (arith, sum_same f g n (λ p less. same p (omega arith)), same n (omega arith))
 
@@ -44,10 +37,12 @@ sum_one f g at (suc n) less here others = by_place (cases_eq n at) (λ below. su
         omega (arith, rest, last)
     by_place (inr differs) later = (let k = later (omega arith) in omega (arith, k, others n differs))
 
-calls_here : (place pass : ℕ) (e : Event) (es : List Event) → e.pass ≡ pass → length (calls_from place pass (e ∷ es)) ≡ length (calls_from (place + 1) pass es) + 1
+calls_here : (place pass : ℕ) (e : Event) (es : List Event) → e.pass ≡ pass →
+    length (calls_from place pass (e ∷ es)) ≡ length (calls_from (place + 1) pass es) + 1
 calls_here place pass e es own = ap length (on_true (e.pass == pass) (record { place = place; event = e } ∷ calls_from (place + 1) pass es) (calls_from (place + 1) pass es) (eq-eqb e.pass pass own)) ∙ omega arith
 
-calls_there : (place pass : ℕ) (e : Event) (es : List Event) → pass ≢ e.pass → length (calls_from place pass (e ∷ es)) ≡ length (calls_from (place + 1) pass es)
+calls_there : (place pass : ℕ) (e : Event) (es : List Event) → pass ≢ e.pass →
+    length (calls_from place pass (e ∷ es)) ≡ length (calls_from (place + 1) pass es)
 calls_there place pass e es differs = ap length (on_false (e.pass == pass) (record { place = place; event = e } ∷ calls_from (place + 1) pass es) (calls_from (place + 1) pass es) (by_test (e.pass == pass) refl))
   where
     by_test : (b : Bool) → (e.pass == pass) ≡ b → (e.pass == pass) ≡ false
@@ -55,7 +50,8 @@ calls_there place pass e es differs = ap length (on_false (e.pass == pass) (reco
     by_test false h = h
 
 -- the passes' calls are all events
-pub calls_sum : (passes place : ℕ) (events : List Event) → AllByRecursion (λ e. e.pass < passes) events → length events ≡ sum_to (λ pass. length (calls_from place pass events)) passes
+pub calls_sum : (passes place : ℕ) (events : List Event) → AllByRecursion (λ e. e.pass < passes) events →
+    length events ≡ sum_to (λ pass. length (calls_from place pass events)) passes
 calls_sum passes place [] all = sym (sum_none passes)
 calls_sum passes place (e ∷ es) all =
     omega (
@@ -64,17 +60,11 @@ calls_sum passes place (e ∷ es) all =
       sum_one (λ pass. length (calls_from place pass (e ∷ es))) (λ pass. length (calls_from (place + 1) pass es)) e.pass passes all.0 (calls_here place e.pass e es refl) (λ pass differs. calls_there place pass e es differs),
     )
 
--- one of several plays on
-pub spends_more : (setting : Setting) (old pass new : PassView) (were seats : List Seat) (i : ℕ) (was is : Seat) → i < length seats → was ≡ get_or seats i was →
-    SpendsAll setting old pass were seats → Spends setting pass new was is → SpendsAll setting old new were (set seats i is)
-spends_more setting old pass new were seats i was is inside at so_far next =
-    let k = work_set setting seats i was is inside in
-    let j = ap (work setting) at in
-    omega (arith, k, j, so_far, next.events)
-
 -- What the passes have made is all.
-pub spent_by : (setting : Setting) (before history : List Event) (were are : ℕ → List Seat) → IsLegal setting before → IsLegal setting history →
-    ((pass : ℕ) → pass < setting.plan.passes → length (calls_from setting.plan.first pass history) + work_all setting (are pass) ≤ length (calls_from setting.plan.first pass before) + work_all setting (were pass)) →
+pub spent_by : (setting : Setting) (before history : List Event) (were are : ℕ → List Seat) → IsLegal setting before →
+    IsLegal setting history →
+    ((pass : ℕ) → pass < setting.plan.passes →
+    length (calls_from setting.plan.first pass history) + work_all setting (are pass) ≤ length (calls_from setting.plan.first pass before) + work_all setting (were pass)) →
     length history + work_of setting are ≤ length before + work_of setting were
 spent_by setting before history were are legal_before legal each =
     let first = setting.plan.first in

@@ -4,3 +4,9 @@ pub mod Rounds
 pub mod Caller
 pub mod CallersTurn
 pub mod RoundsCrew
+pub mod Drawing
+pub mod DealRounds
+pub mod Settled
+pub mod Idle
+pub mod RunCrew
+pub mod Passes

@@ -1,14 +1,10 @@
--- Workers, each with a pass and transactions.
-use Rattle.std.specs.Prelude.{◌≡◌, ℕ, zero, suc, [], map, ◌+◌, ◌<◌, ◌≤◌, List, false, length, slice_index_or}
-use Rattle.std.specs.List.{All}
+-- Workers, each with a pass.
+use Rattle.std.specs.Prelude.{◌≡◌, ℕ, ◌+◌, ◌<◌, ◌≤◌, List, false, length, slice_index_or}
 use Rattle.lt_seq.specs.Table.{Setting}
 use Rattle.lt_seq.specs.declared.event.Event.{Event}
 use Rattle.lt_seq.specs.Yard.{PassView, Origin, IsSound, IsPlan}
 use Rattle.lt_seq.specs.History.{IsFront}
-use Rattle.lt_runner.specs.TurnView.{Seat}
-use Rattle.lt_runner.specs.PlaysOn.{IsFit, IsReady}
 use Rattle.lt_crew.specs.declared.worker.Worker.{Worker}
-use Rattle.lt_crew.specs.Crew.{PlaysAll, SpendsAll, IsPlayedOut, AreDistinct, AreApart, numbers_in}
 
 -- each element stands in a relation to the one that was at its place
 abbrev pub EachPair : {X : Type 0} → (X → X → Type 0) → List X → List X → Type 0
@@ -24,44 +20,13 @@ pub record UpTo {X : Type 0} (R : X → X → Type 0) (at : ℕ) (old new : List
 abbrev pub AllBelow : {X : Type 0} → (X → Type 0) → ℕ → List X → Type 0
 AllBelow {X} P at xs = (k : ℕ) (d : X) → k < at → k < length xs → P (slice_index_or xs k d)
 
--- the seats of each pass, by its number: the caller's has none
-abbrev pub seats_by : {P : Type 0} → List (Worker P) → ℕ → List Seat
-seats_by {P} workers zero = []
-seats_by {P} workers (suc k) = slice_index_or (map (λ w. w.turns.items) workers) k []
-
--- no transaction is with two workers
-abbrev pub AreParted : {P : Type 0} → List (Worker P) → Type 0
-AreParted {P} workers = AreApart (λ pass. numbers_in (seats_by workers pass))
-
--- a worker played each of its transactions as far as it can
-abbrev pub AreOut : {P : Type 0} → Worker P → Worker P → Type 0
-AreOut {P} old new = EachPair IsPlayedOut old.turns.items new.turns.items
-
 module _ {P : Type 0} (origin : P → Origin) (view : P → PassView) (place : Origin) where
-  -- a worker that may play
-  pub record IsManned (worker : Worker P) : Type 0 where
-    pub of : origin worker.pass ≡ place
-    pub ready : IsReady place.setting (view worker.pass)
-    pub fit : All (IsFit place.setting) worker.turns.items
-    pub distinct : AreDistinct worker.turns.items
-    pub memory : worker.short ≡ false
-
-  -- what it leaves
-  pub record HasWorked (old new : Worker P) : Type 0 where
-    pub of : origin new.pass ≡ place
-    pub fit : new.short ≡ false → All (IsFit place.setting) new.turns.items
-    pub plays : new.short ≡ false → PlaysAll place.setting [] (view old.pass) (view new.pass) old.turns.items new.turns.items
-    pub spends : new.short ≡ false → SpendsAll place.setting (view old.pass) (view new.pass) old.turns.items new.turns.items
-    pub out : new.short ≡ false → AreOut old new
-
   -- between two rounds: it has no right, and has seen the history
   pub record IsResting (history : List Event) (worker : Worker P) : Type 0 where
     pub of : origin worker.pass ≡ place
     pub none : (view worker.pass).rights ≡ 0
     pub seen : (view worker.pass).front ≡ history
     pub sound : IsSound place.setting (view worker.pass)
-    pub fit : All (IsFit place.setting) worker.turns.items
-    pub distinct : AreDistinct worker.turns.items
     pub memory : worker.short ≡ false
 
   -- a worker with a right
@@ -69,7 +34,6 @@ module _ {P : Type 0} (origin : P → Origin) (view : P → PassView) (place : O
     pub of : origin new.pass ≡ place
     pub pass : view new.pass ≡ record (view old.pass) { rights = 1 }
     pub sound : IsSound place.setting (view new.pass)
-    pub turns : new.turns ≡ old.turns
     pub memory : new.short ≡ old.short
 
   -- one that was told what the caller has seen
@@ -77,20 +41,17 @@ module _ {P : Type 0} (origin : P → Origin) (view : P → PassView) (place : O
     pub of : origin new.pass ≡ place
     pub pass : view new.pass ≡ record (view old.pass) { front = history }
     pub sound : IsSound place.setting (view new.pass)
-    pub turns : new.turns ≡ old.turns
     pub memory : new.short ≡ old.short
 
 module _ {P : Type 0} (view : P → PassView) where
   -- one whose right was taken back
   pub record IsTaken (old new : Worker P) : Type 0 where
     pub pass : view new.pass ≡ record (view old.pass) { rights = 0 }
-    pub turns : new.turns ≡ old.turns
     pub memory : new.short ≡ old.short
 
   -- all workers, in the order of their passes' numbers
-  pub record AreInOrder (workers : List (Worker P)) : Type 0 where
-    pub numbers : (k : ℕ) (d : Worker P) → k < length workers → (view (slice_index_or workers k d).pass).number ≡ k + 1
-    pub parted : AreParted workers
+  abbrev pub AreNumbered : List (Worker P) → Type 0
+  AreNumbered workers = (k : ℕ) (d : Worker P) → k < length workers → (view (slice_index_or workers k d).pass).number ≡ k + 1
 
   -- what a worker has seen, the caller has
   abbrev pub IsSeenBy : List Event → Worker P → Type 0
@@ -110,17 +71,3 @@ pub record IsCaller (setting : Setting) (workers : ℕ) (pass : PassView) : Type
   pub passes : setting.plan.passes ≡ workers + 1
   pub some : 1 ≤ workers
   pub sound : IsSound setting pass
-
-module _ {P : Type 0} (origin : P → Origin) (view : P → PassView) (place : Origin) where
-  -- A worker that had a right and has none now: it played, and was told the history.
-  pub record HasPlayed (history : List Event) (old new : Worker P) : Type 0 where
-    pub of : origin new.pass ≡ place
-    pub between : PassView
-    pub plays : PlaysAll place.setting [] (view old.pass) between old.turns.items new.turns.items
-    pub seen : IsFront between.front history
-    pub pass : view new.pass ≡ record between { rights = 0; front = history }
-    pub sound : IsSound place.setting (view new.pass)
-    pub fit : All (IsFit place.setting) new.turns.items
-    pub spends : SpendsAll place.setting (view old.pass) between old.turns.items new.turns.items
-    pub out : AreOut old new
-    pub memory : new.short ≡ false

@@ -15,6 +15,8 @@ ghost use Rattle.lt_crew.specs.Caller.{PlaysAt, AsksAt, is_refused};
 ghost use Rattle.lt_crew.specs.CallersTurn.{ArePaid, HasPlaces, IsPlayedOn, IsAnsweredNow, IsTurned};
 ghost use Rattle.lt_crew.specs.Workers.{EachPair};
 ghost use Rattle.lt_runner.specs.CrewCost.{pass_cost};
+ghost use Rattle.lt_runner.specs.Notes.{KeepsNotes};
+ghost use Rattle.lt_crew.specs.Settled.{SettlesOne};
 
 use lt_history::Outcome;
 use lt_requests::{Registry, Started, Wish};
@@ -33,6 +35,7 @@ pub(crate) fn play_alone<Y: Yard>(
     requires may { MayPlay (Y.setting yard.now) (Y.Pass.view pass.old) turn.old }
     ensures of { Y.Pass.origin pass.new ≡ origin_of (Y.identity yard.now) (Y.setting yard.now) }
     ensures alone { IsAlone (Y.setting yard.now) (Y.Pass.view pass.new) }
+    ensures noted { KeepsNotes (Y.setting yard.now) (Y.Pass.view pass.old) (Y.Pass.view pass.new) }
     ensures fit { OnOk result (IsFit (Y.setting yard.now) turn.new) }
     ensures plays { OnOk result (PlaysOn (Y.setting yard.now) [] (Y.Pass.view pass.old) (Y.Pass.view pass.new) turn.old turn.new) }
     ensures spends { OnOk result (Spends (Y.setting yard.now) (Y.Pass.view pass.old) (Y.Pass.view pass.new) turn.old turn.new) }
@@ -117,6 +120,7 @@ pub(crate) fn ask_alone<Y: Yard>(
     requires may { MayAskNow (Y.setting yard.now) (Y.Pass.view pass.old) registry.old turn.old }
     ensures of { Y.Pass.origin pass.new ≡ origin_of (Y.identity yard.now) (Y.setting yard.now) }
     ensures alone { IsAlone (Y.setting yard.now) (Y.Pass.view pass.new) }
+    ensures noted { KeepsNotes (Y.setting yard.now) (Y.Pass.view pass.old) (Y.Pass.view pass.new) }
     ensures asked { OnOk result (HasAsked (Y.setting yard.now) (Y.Pass.view pass.old) (Y.Pass.view pass.new)
         registry.old registry.new turn.old turn.new) }
 {
@@ -144,6 +148,7 @@ pub(crate) fn play_busy<Y: Yard>(
         + length (slice_index_or turns.old place d).turn.releases < places_end }
     ensures of { Y.Pass.origin pass.new ≡ origin_of (Y.identity yard.now) (Y.setting yard.now) }
     ensures alone { IsAlone (Y.setting yard.now) (Y.Pass.view pass.new) }
+    ensures noted { KeepsNotes (Y.setting yard.now) (Y.Pass.view pass.old) (Y.Pass.view pass.new) }
     ensures crew { OnOk result (StaysCrew (Y.setting yard.now) (Y.Pass.view pass.old).front (Y.Pass.view pass.new).front
         turns.old turns.new) }
     ensures played { OnOk result ((d : Seat) → PlaysAt (is_refused (slice_index_or turns.old place d)) (Y.setting yard.now)
@@ -174,6 +179,7 @@ pub(crate) fn ask_waiting<Y: Yard>(
         + length turns.old ≤ places_end }
     ensures of { Y.Pass.origin pass.new ≡ origin_of (Y.identity yard.now) (Y.setting yard.now) }
     ensures alone { IsAlone (Y.setting yard.now) (Y.Pass.view pass.new) }
+    ensures noted { KeepsNotes (Y.setting yard.now) (Y.Pass.view pass.old) (Y.Pass.view pass.new) }
     ensures crew { OnOk result (AsksStay (Y.setting yard.now) (Y.Pass.view pass.old).front (Y.Pass.view pass.new).front
         registry.old registry.new turns.old turns.new) }
     ensures asked { OnOk result ((d : Seat) → AsksAt (slice_index_or turns.old place d).turn.waits (Y.setting yard.now)
@@ -194,6 +200,7 @@ fn play_refused<Y: Yard>(yard: &Y, pass: &mut Y::Pass, turns: &mut [Turn]) -> Re
     requires places { HasPlaces (Y.setting yard.now) (Y.Pass.view pass.old) turns.old 0 }
     ensures of { Y.Pass.origin pass.new ≡ origin_of (Y.identity yard.now) (Y.setting yard.now) }
     ensures alone { IsAlone (Y.setting yard.now) (Y.Pass.view pass.new) }
+    ensures noted { OnOk result (KeepsNotes (Y.setting yard.now) (Y.Pass.view pass.old) (Y.Pass.view pass.new)) }
     ensures crew { OnOk result (StaysCrew (Y.setting yard.now) (Y.Pass.view pass.old).front (Y.Pass.view pass.new).front
         turns.old turns.new) }
     ensures played { OnOk result (EachPair IsPlayedOn turns.old turns.new) }
@@ -220,9 +227,11 @@ fn ask_for_waiting<Y: Yard>(
         (pass_cost (Y.setting yard.now).plan.trees (length turns.old)) }
     ensures of { Y.Pass.origin pass.new ≡ origin_of (Y.identity yard.now) (Y.setting yard.now) }
     ensures alone { IsAlone (Y.setting yard.now) (Y.Pass.view pass.new) }
+    ensures noted { OnOk result (KeepsNotes (Y.setting yard.now) (Y.Pass.view pass.old) (Y.Pass.view pass.new)) }
     ensures crew { OnOk result (AsksStay (Y.setting yard.now) (Y.Pass.view pass.old).front (Y.Pass.view pass.new).front
         registry.old registry.new turns.old turns.new) }
     ensures asked { OnOk result (EachPair IsAnsweredNow turns.old turns.new) }
+    ensures settles { OnOk result (SettlesOne turns.old turns.new) }
     ensures paid { OnOk result (ArePaid (Y.setting yard.now) (Y.Pass.view pass.old) (Y.Pass.view pass.new) turns.old turns.new
         (pass_cost (Y.setting yard.now).plan.trees (length turns.old))) }
 {
@@ -233,7 +242,8 @@ fn ask_for_waiting<Y: Yard>(
 }
 
 /// The caller's turn between two rounds: first each transaction whose last call was refused is played on, then each that
-/// waits asks, both in the order of their numbers.
+/// waits asks, both in the order of their numbers. Where nobody is left but those that wait and are registered, one of them is
+/// granted or ends.
 ///
 /// The only error is want of memory. Then the events that were made stand, and no transaction is played any more.
 pub fn callers_turn<Y: Yard>(
@@ -250,9 +260,11 @@ pub fn callers_turn<Y: Yard>(
         (pass_cost (Y.setting yard.now).plan.trees (length turns.old)) }
     ensures of { Y.Pass.origin pass.new ≡ origin_of (Y.identity yard.now) (Y.setting yard.now) }
     ensures alone { IsAlone (Y.setting yard.now) (Y.Pass.view pass.new) }
+    ensures noted { OnOk result (KeepsNotes (Y.setting yard.now) (Y.Pass.view pass.old) (Y.Pass.view pass.new)) }
     ensures crew { OnOk result (AsksStay (Y.setting yard.now) (Y.Pass.view pass.old).front (Y.Pass.view pass.new).front
         registry.old registry.new turns.old turns.new) }
     ensures turned { OnOk result (EachPair IsTurned turns.old turns.new) }
+    ensures settles { OnOk result (SettlesOne turns.old turns.new) }
     ensures paid { OnOk result (ArePaid (Y.setting yard.now) (Y.Pass.view pass.old) (Y.Pass.view pass.new) turns.old turns.new
         (pass_cost (Y.setting yard.now).plan.trees (length turns.old))) }
 {

@@ -1,16 +1,15 @@
-//! Rounds of workers that play side by side.
-ghost use Rattle.std.specs.Prelude.{◌≡◌, [], ◌+◌, ◌-◌, ◌≤◌, ◌<◌, All, length, false, OnOk};
+//! Workers that play side by side: they are lent rights, which come back, and are told what was seen.
+ghost use Rattle.std.specs.Prelude.{◌≡◌, ◌+◌, ◌-◌, ◌≤◌, ◌<◌, All, length, false};
 ghost use Rattle.lt_seq.specs.Yard.{origin_of, Learns, IsSound};
 ghost use Rattle.lt_seq.specs.History.{IsFront};
-ghost use Rattle.lt_crew.specs.Workers.{IsManned, HasWorked, IsResting, IsLent, IsTaken, IsTold, HasTaken};
-ghost use Rattle.lt_crew.specs.Workers.{IsSeenBy, EachPair, AreOut, HasPlayed, IsCaller, AreInOrder, seats_by};
-ghost use Rattle.lt_crew.specs.Crew.{IsRound, work_of};
-ghost use Rattle.lt_crew.specs.RoundsCrew.{ArePlayedOut, RoundStays};
+ghost use Rattle.lt_crew.specs.Workers.{IsResting, IsLent, IsTaken, IsTold, HasTaken, IsSeenBy, EachPair};
+ghost use Rattle.lt_crew.specs.DealRounds.{IsSeated, HasWorked};
 
 use crate::gate::Gate;
 use crate::worker::{Worker, play};
+use lt_deal::Deal;
+use lt_runner::Turn;
 use lt_seq::{Pass, Yard};
-use std::alloc::AllocError;
 use std::thread;
 use std::thread::Threads;
 
@@ -18,20 +17,22 @@ use std::thread::Threads;
 pub(crate) fn side_by_side<R: Threads + Sync, Y: Yard, G: Gate>(
     rt: &R,
     yard: &Y,
+    deal: &Deal<Turn>,
     workers: &mut [Worker<Y::Pass>],
     gate: &G,
 )
     requires some { 0 < length workers.old }
-    requires manned { All (IsManned Y.Pass.origin Y.Pass.view (origin_of (Y.identity yard.now) (Y.setting yard.now))) workers.old }
-    ensures { EachPair (HasWorked Y.Pass.origin Y.Pass.view (origin_of (Y.identity yard.now) (Y.setting yard.now)))
+    requires seated { All (IsSeated Y.Pass.origin Y.Pass.view (origin_of (Y.identity yard.now) (Y.setting yard.now)) deal.now)
+        workers.old }
+    ensures { EachPair (HasWorked Y.Pass.origin Y.Pass.view (origin_of (Y.identity yard.now) (Y.setting yard.now)) deal.now)
         workers.old workers.new }
 {
     let threads = workers.len();
     let part = |_: usize, worker: &mut Worker<Y::Pass>|
-        requires { IsManned Y.Pass.origin Y.Pass.view (origin_of (Y.identity yard.now) (Y.setting yard.now)) worker.old }
+        requires { IsSeated Y.Pass.origin Y.Pass.view (origin_of (Y.identity yard.now) (Y.setting yard.now)) deal.now worker.old }
         ensures { HasWorked Y.Pass.origin Y.Pass.view (origin_of (Y.identity yard.entry.now) (Y.setting yard.entry.now))
-            worker.old worker.new }
-    { play(yard, worker, gate) };
+            deal.entry.now worker.old worker.new }
+    { play(yard, deal, worker, gate) };
     thread::for_each_mut(rt, workers, threads, &part);
 }
 
@@ -85,7 +86,7 @@ fn tell_one<Y: Yard>(yard: &Y, me: &mut Y::Pass, worker: &mut Worker<Y::Pass>)
 }
 
 /// Gives a right to each worker.
-fn lend<Y: Yard>(yard: &Y, me: &mut Y::Pass, workers: &mut [Worker<Y::Pass>])
+pub(crate) fn lend<Y: Yard>(yard: &Y, me: &mut Y::Pass, workers: &mut [Worker<Y::Pass>])
     requires of { Y.Pass.origin me.old ≡ origin_of (Y.identity yard.now) (Y.setting yard.now) }
     requires rights { length workers.old ≤ (Y.Pass.view me.old).rights }
     requires several { 2 ≤ (Y.setting yard.now).plan.passes }
@@ -102,7 +103,7 @@ fn lend<Y: Yard>(yard: &Y, me: &mut Y::Pass, workers: &mut [Worker<Y::Pass>])
 }
 
 /// Takes the right of each worker back.
-fn take_back<Y: Yard>(yard: &Y, me: &mut Y::Pass, workers: &mut [Worker<Y::Pass>])
+pub(crate) fn take_back<Y: Yard>(yard: &Y, me: &mut Y::Pass, workers: &mut [Worker<Y::Pass>])
     requires of { Y.Pass.origin me.old ≡ origin_of (Y.identity yard.now) (Y.setting yard.now) }
     requires sound { IsSound (Y.setting yard.now) (Y.Pass.view me.old) }
     requires several { 2 ≤ (Y.setting yard.now).plan.passes }
@@ -121,7 +122,7 @@ fn take_back<Y: Yard>(yard: &Y, me: &mut Y::Pass, workers: &mut [Worker<Y::Pass>
 }
 
 /// Tells each worker what the caller has seen.
-fn tell<Y: Yard>(yard: &Y, me: &mut Y::Pass, workers: &mut [Worker<Y::Pass>])
+pub(crate) fn tell<Y: Yard>(yard: &Y, me: &mut Y::Pass, workers: &mut [Worker<Y::Pass>])
     requires of { Y.Pass.origin me.old ≡ origin_of (Y.identity yard.now) (Y.setting yard.now) }
     requires several { 2 ≤ (Y.setting yard.now).plan.passes }
     requires of_workers { All (λ w. Y.Pass.origin w.pass ≡ origin_of (Y.identity yard.now) (Y.setting yard.now)) workers.old }
@@ -138,7 +139,7 @@ fn tell<Y: Yard>(yard: &Y, me: &mut Y::Pass, workers: &mut [Worker<Y::Pass>])
 }
 
 /// Whether a worker found no memory.
-fn any_short<P>(workers: &[Worker<P>]) -> bool
+pub(crate) fn any_short<P>(workers: &[Worker<P>]) -> bool
     ensures { result ≡ false → All (λ w. w.short ≡ false) workers.now }
 {
     for worker in workers {
@@ -147,70 +148,4 @@ fn any_short<P>(workers: &[Worker<P>]) -> bool
         }
     }
     false
-}
-
-/// The workers have each a right, play, and give the right back. Then each has seen what the caller has seen. The only
-/// error is want of memory.
-fn play_lent<R: Threads + Sync, Y: Yard, G: Gate>(
-    rt: &R,
-    yard: &Y,
-    me: &mut Y::Pass,
-    workers: &mut [Worker<Y::Pass>],
-    gate: &G,
-) -> Result<(), AllocError>
-    requires of { Y.Pass.origin me.old ≡ origin_of (Y.identity yard.now) (Y.setting yard.now) }
-    requires sound { IsSound (Y.setting yard.now) (Y.Pass.view me.old) }
-    requires several { 2 ≤ (Y.setting yard.now).plan.passes }
-    requires rest { (Y.Pass.view me.old).rights + length workers.old ≤ (Y.setting yard.now).plan.passes }
-    requires some { 0 < length workers.old }
-    requires manned { All (IsManned Y.Pass.origin Y.Pass.view (origin_of (Y.identity yard.now) (Y.setting yard.now))) workers.old }
-    requires one { All (λ w. (Y.Pass.view w.pass).rights ≡ 1) workers.old }
-    ensures of { Y.Pass.origin me.new ≡ origin_of (Y.identity yard.now) (Y.setting yard.now) }
-    ensures me { OnOk result (HasTaken (Y.setting yard.now) (Y.Pass.view me.old) (Y.Pass.view me.new) (length workers.old)) }
-    ensures played { OnOk result (EachPair (HasPlayed Y.Pass.origin Y.Pass.view (origin_of (Y.identity yard.now) (Y.setting yard.now))
-        (Y.Pass.view me.new).front) workers.old workers.new) }
-{
-    side_by_side(rt, yard, workers, gate);
-    if any_short(workers) {
-        return Err(AllocError);
-    }
-    take_back(yard, me, workers);
-    tell(yard, me, workers);
-    Ok(())
-}
-
-/// One round: each worker gets a right, the workers play side by side, and the rights come back. Then the caller has all
-/// the rights again, and each pass has seen the whole history.
-///
-/// Each transaction is played until it waits at a held line, a call is refused, or it has given back all. One that waits,
-/// or whose last call was refused, is left as it is, and none is registered. The only error is want of memory. Then the
-/// events that were made stand, rights may be left with the workers, and no transaction is played any more.
-pub fn round<R: Threads + Sync, Y: Yard, G: Gate>(
-    rt: &R,
-    yard: &Y,
-    me: &mut Y::Pass,
-    workers: &mut [Worker<Y::Pass>],
-    gate: &G,
-) -> Result<(), AllocError>
-    requires of { Y.Pass.origin me.old ≡ origin_of (Y.identity yard.now) (Y.setting yard.now) }
-    requires caller { IsCaller (Y.setting yard.now) (length workers.old) (Y.Pass.view me.old) }
-    requires resting { All (IsResting Y.Pass.origin Y.Pass.view (origin_of (Y.identity yard.now) (Y.setting yard.now))
-        (Y.Pass.view me.old).front) workers.old }
-    requires ordered { AreInOrder Y.Pass.view workers.old }
-    ensures of { Y.Pass.origin me.new ≡ origin_of (Y.identity yard.now) (Y.setting yard.now) }
-    ensures caller { OnOk result (IsCaller (Y.setting yard.now) (length workers.old) (Y.Pass.view me.new)) }
-    ensures resting { OnOk result (All (IsResting Y.Pass.origin Y.Pass.view (origin_of (Y.identity yard.now) (Y.setting yard.now))
-        (Y.Pass.view me.new).front) workers.new) }
-    ensures out { OnOk result (EachPair AreOut workers.old workers.new) }
-    ensures spent { OnOk result (length (Y.Pass.view me.new).front + work_of (Y.setting yard.now) (seats_by workers.new)
-        ≤ length (Y.Pass.view me.old).front + work_of (Y.setting yard.now) (seats_by workers.old)) }
-    ensures passes { OnOk result (ArePlayedOut (Y.setting yard.now) (seats_by workers.old) (seats_by workers.new)) }
-    ensures crew { OnOk result (RoundStays (Y.setting yard.now) (Y.Pass.view me.old).front (Y.Pass.view me.new).front
-        (seats_by workers.old) (seats_by workers.new)) }
-    ensures ordered { OnOk result (AreInOrder Y.Pass.view workers.new) }
-    ensures round { OnOk result (IsRound (Y.setting yard.now) [] (Y.Pass.view me.old).front (Y.Pass.view me.new).front
-        (seats_by workers.old) (seats_by workers.new)) }
-{
-    lend(yard, me, workers);
-    play_lent(rt, yard, me, workers, gate)
 }

@@ -3,6 +3,7 @@ ghost use Rattle.std.specs.Prelude.{◌≡◌, ◌≢◌, ◌⊎◌, ◌≤◌, 
 ghost use Rattle.lt_seq.specs.Yard.{origin_of};
 ghost use Rattle.lt_runner.specs.PlaysOn.{IsFit, IsReady, PlaysOn};
 ghost use Rattle.lt_runner.specs.Work.{Spends};
+ghost use Rattle.lt_runner.specs.Notes.{KeepsNotes};
 ghost use Rattle.lt_crew.specs.Crew.{MayGo, IsStuck, IsOn, IsPlayedOut};
 
 use crate::gate::Gate;
@@ -26,6 +27,7 @@ fn play_once<Y: Yard>(yard: &Y, pass: &mut Y::Pass, turn: &mut Turn) -> Result<(
     requires goes { MayGo turn.old }
     requires left { turn.old.turn.outcome ≡ None → turn.old.turn.lines ≢ [] }
     ensures of { Y.Pass.origin pass.new ≡ origin_of (Y.identity yard.now) (Y.setting yard.now) }
+    ensures noted { KeepsNotes (Y.setting yard.now) (Y.Pass.view pass.old) (Y.Pass.view pass.new) }
     ensures fit { OnOk result (IsFit (Y.setting yard.now) turn.new) }
     ensures plays { OnOk result (PlaysOn (Y.setting yard.now) [] (Y.Pass.view pass.old) (Y.Pass.view pass.new) turn.old turn.new) }
     ensures spends { OnOk result (Spends (Y.setting yard.now) (Y.Pass.view pass.old) (Y.Pass.view pass.new) turn.old turn.new) }
@@ -51,6 +53,7 @@ fn play_lines<Y: Yard, G: Gate>(
     requires ready { IsReady (Y.setting yard.now) (Y.Pass.view pass.old) }
     requires fit { IsFit (Y.setting yard.now) turn.old }
     ensures of { Y.Pass.origin pass.new ≡ origin_of (Y.identity yard.now) (Y.setting yard.now) }
+    ensures noted { OnOk result (KeepsNotes (Y.setting yard.now) (Y.Pass.view pass.old) (Y.Pass.view pass.new)) }
     ensures fit { OnOk result (IsFit (Y.setting yard.now) turn.new) }
     ensures plays { OnOk result (PlaysOn (Y.setting yard.now) [] (Y.Pass.view pass.old) (Y.Pass.view pass.new) turn.old turn.new) }
     ensures spends { OnOk result (Spends (Y.setting yard.now) (Y.Pass.view pass.old) (Y.Pass.view pass.new) turn.old turn.new) }
@@ -84,6 +87,7 @@ pub(crate) fn play_turn<Y: Yard, G: Gate>(
     requires ready { IsReady (Y.setting yard.now) (Y.Pass.view pass.old) }
     requires fit { IsFit (Y.setting yard.now) turn.old }
     ensures of { Y.Pass.origin pass.new ≡ origin_of (Y.identity yard.now) (Y.setting yard.now) }
+    ensures noted { OnOk result (KeepsNotes (Y.setting yard.now) (Y.Pass.view pass.old) (Y.Pass.view pass.new)) }
     ensures fit { OnOk result (IsFit (Y.setting yard.now) turn.new) }
     ensures plays { OnOk result (PlaysOn (Y.setting yard.now) [] (Y.Pass.view pass.old) (Y.Pass.view pass.new) turn.old turn.new) }
     ensures spends { OnOk result (Spends (Y.setting yard.now) (Y.Pass.view pass.old) (Y.Pass.view pass.new) turn.old turn.new) }

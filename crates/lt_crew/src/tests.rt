@@ -1,15 +1,22 @@
 //! Transactions that one pass of the plain table plays. A round wants a table of several passes.
+ghost use Rattle.std.specs.Prelude.{◌≡◌, All, length, false, OnOk};
+ghost use Rattle.lt_seq.specs.Yard.{origin_of};
+ghost use Rattle.lt_runner.specs.PlaysOn.{IsFit, IsReady};
 
 use crate::crew::side_by_side;
+use crate::dealing::seat_all;
 use crate::gate::{Gate, OpenGate};
 use crate::play::play_turn;
 use crate::worker::Worker;
+use lt_deal::Deal;
 use lt_ranges::KeyRange;
 use lt_runner::Turn;
-use lt_seq::{SeqYard, Yard, YardPlan};
+use lt_seq::{Pass, SeqYard, Yard, YardPlan};
 use lt_trace::LineDeed;
+use std::alloc::{AllocError, Global};
 use std::sync::atomic::{AtomicU64, Ordering};
 use std::test::Fail;
+use std::thread::Threads;
 
 const PLAN: YardPlan = YardPlan {
     trees: 1,
@@ -84,8 +91,31 @@ fn a_held_line_is_played_once_and_waits(rt: HostRuntime) -> Result<(), Fail> {
     Ok(())
 }
 
+/// Workers draw a transaction in threads, and play it.
+fn draw_one<R: Threads + Sync, Y: Yard>(
+    rt: &R,
+    alloc: Global,
+    yard: &Y,
+    workers: &mut [Worker<Y::Pass>],
+    turn: Turn,
+) -> Result<(), AllocError>
+    requires one { length workers.old ≡ 1 }
+    requires of { All (λ w. Y.Pass.origin w.pass ≡ origin_of (Y.identity yard.now) (Y.setting yard.now)) workers.old }
+    requires ready { All (λ w. IsReady (Y.setting yard.now) (Y.Pass.view w.pass)) workers.old }
+    requires memory { All (λ w. w.short ≡ false) workers.old }
+    requires fit { IsFit (Y.setting yard.now) turn }
+    ensures count { length workers.new ≡ length workers.old }
+    ensures of { OnOk result (All (λ w. Y.Pass.origin w.pass ≡ origin_of (Y.identity yard.now) (Y.setting yard.now)) workers.new) }
+{
+    let turns = vec![in alloc; turn]?;
+    let (deal, seats) = Deal::build(alloc, turns, 1)?;
+    seat_all(workers, seats);
+    side_by_side(rt, yard, &deal, workers, &OpenGate);
+    Ok(())
+}
+
 #[test]
-fn a_thread_plays_a_worker_s_transactions(rt: HostRuntime) -> Result<(), Fail> {
+fn a_thread_plays_what_a_worker_draws(rt: HostRuntime) -> Result<(), Fail> {
     let alloc = rt.alloc();
     let (yard, mut passes) = SeqYard::build(alloc, &PLAN)?;
     let mut turn = Turn::without_lines(alloc, 1, 1)?;
@@ -95,13 +125,12 @@ fn a_thread_plays_a_worker_s_transactions(rt: HostRuntime) -> Result<(), Fail> {
     let mut workers = vec![in alloc;
         Worker {
             pass: passes.remove(0),
-            turns: vec![in alloc; turn]?,
+            seat: None,
             short: false,
         },
     ]?;
-    side_by_side(&rt, &yard, &mut workers, &OpenGate);
+    draw_one(&rt, alloc, &yard, &mut workers, turn)?;
     assert!(rt; !workers[0].short);
-    assert!(rt; workers[0].turns[0].has_ended());
     assert_eq!(rt; yard.look(&mut workers[0].pass).place, 2);
     Ok(())
 }

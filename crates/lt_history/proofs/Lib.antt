@@ -1,1 +1,2 @@
+pub mod ClimbLaws
 pub mod MergeLaws

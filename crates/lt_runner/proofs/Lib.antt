@@ -8,6 +8,7 @@ pub mod PlaceLaws
 pub mod OwnLaws
 pub mod TraceLaws
 pub mod ClosingLaws
+pub mod OwnNoteLaws
 pub mod NoteLaws
 pub mod PlayLaws
 pub mod SearchLaws

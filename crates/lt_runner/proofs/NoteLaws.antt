@@ -1,5 +1,7 @@
 -- A pass that acts alone keeps the notes of all joins.
 use Rattle.std.proofs.Common.{◌≡◌, ℕ, ◌+◌, List, [], ◌∷◌, ◌++◌, Option, Some, None, Result, Ok, Err, refl, sym, ap, ◌∙◌, subst, inl, inr, append-nil, append_assoc}
+use Rattle.std.proofs.Common.{◌==◌, true, arith}
+use Rattle.std.proofs.lemmas.Bool.Decides.{nat_tests}
 use Rattle.lt_seq.specs.declared.event.Deed.{Deed}
 use Rattle.lt_seq.specs.declared.event.Deed.TheVariants.{Ask, Free, Who, Join}
 use Rattle.lt_seq.specs.declared.event.Event.{Event}
@@ -7,14 +9,16 @@ use Rattle.lt_seq.specs.declared.event.Receipt.{Receipt}
 use Rattle.lt_seq.specs.declared.event.JoinNote.{JoinNote}
 use Rattle.lt_seq.specs.declared.fault.Fault.{Fault}
 use Rattle.lt_seq.specs.Table.{Setting, TreeState, tree_at, tree_of, replied}
-use Rattle.lt_seq.specs.History.{after}
-use Rattle.lt_seq.specs.Yard.{PassView, HasAll, Happens, Watches, Answered, Answers, AskAnswered, AskAnswers, AreJoined, noted}
+use Rattle.lt_seq.specs.History.{after, calls_from}
+use Rattle.lt_seq.proofs.YardLaws.{front_then}
+use Rattle.lt_seq.specs.Yard.{PassView, HasAll, IsSound, Happens, Watches, Answered, Answers, AskAnswered, AskAnswers, AreJoined, noted}
 use Rattle.lt_requests.specs.declared.wish.Wish.{Wish}
 use Rattle.lt_requests.specs.declared.cycle.Edge.{Edge}
 use Rattle.lt_requests.specs.declared.started.Started.{Started}
 use Rattle.lt_requests.specs.declared.started.Started.TheVariants.{Granted as StartedGranted, Waits, Deadlock}
 use Rattle.lt_requests.specs.Started.{AreMade, HasFailed, IsCutShort, IsSearched, HasFault, IsStarted, deed_for}
-use Rattle.lt_runner.specs.Notes.{notes_behind, notes_in, KeepsNotes}
+use Rattle.lt_runner.specs.Notes.{notes_behind, notes_in, notes_of, HasOwnNotes, KeepsNotes}
+use Rattle.lt_runner.proofs.OwnNoteLaws.{own_more, own_notes_still, notes_before}
 
 -- the replies of a deed leave no note
 noted_replied : (setting : Setting) (events : List Event) (txn : ℕ) (deed : Deed) (t : TreeState) (notes : List JoinNote) →
@@ -34,17 +38,47 @@ notes_more setting before (x ∷ xs) e notes =
     ∙ ap (λ (b : List Event). noted setting b e.deed (notes_behind setting (before ++ x ∷ []) xs kept)) (append_assoc before (x ∷ []) xs)
 
 pub keeps_notes_itself : (setting : Setting) (old new : PassView) → new ≡ old → KeepsNotes setting old new
-keeps_notes_itself setting old new same = subst (λ p. KeepsNotes setting old p) (sym same) (record { rights = refl; notes = λ all notes. notes })
+keeps_notes_itself setting old new same = subst (λ p. KeepsNotes setting old p) (sym same) (record {
+  rights = refl;
+  number = refl;
+  front = ([], sym (append-nil old.front));
+  sound = λ sound. sound;
+  own = λ sound notes. notes;
+  notes = λ all notes. notes;
+})
 
 pub keeps_notes_then : (setting : Setting) (one two three : PassView) → KeepsNotes setting one two → KeepsNotes setting two three → KeepsNotes setting one three
 keeps_notes_then setting one two three first second = record {
   rights = second.rights ∙ first.rights;
+  number = second.number ∙ first.number;
+  front = front_then one.front two.front three.front first.front second.front;
+  sound = λ sound. second.sound (first.sound sound);
+  own = λ sound notes. second.own (first.sound sound) (first.own sound notes);
   notes = λ all notes. second.notes (first.rights ∙ all) (first.notes all notes);
 }
 
 happens_notes : (setting : Setting) (old new : PassView) (txn : ℕ) (deed : Deed) (receipt : Receipt) → Happens setting old new txn deed receipt → KeepsNotes setting old new
 happens_notes setting old new txn deed receipt happens = record {
   rights = happens.rights;
+  number = happens.goes.number;
+  front = happens.goes.front;
+  sound = λ sound. happens.goes.sound;
+  own = λ sound notes.
+      let before = happens.before in
+      let n = old.number in
+      let tree = tree_at (after setting before) (tree_of deed) in
+      let deed_is : receipt.event.deed ≡ replied setting txn deed tree = ap (λ (e : Event). e.deed) happens.event in
+      let own : (receipt.event.pass == n) ≡ true = let k = ap (λ (e : Event). e.pass) happens.event in grind (arith, nat_tests) in
+      let calls : calls_from setting.plan.first n (before ++ receipt.event ∷ []) ≡ calls_from setting.plan.first n old.front ++ receipt ∷ [] =
+      ap (calls_from setting.plan.first n) (sym happens.front) ∙ ap (λ (k : ℕ). calls_from setting.plan.first k new.front) (sym happens.goes.number)
+      ∙ sym happens.goes.sound.mine ∙ happens.mine ∙ ap (λ (rs : List Receipt). rs ++ receipt ∷ []) sound.mine in
+      let kept : old.notes ≡ notes_of setting n before =
+      notes ∙ sym (notes_before setting n old.front before receipt
+      (front_then old.front happens.seen before happens.looked happens.waited) calls own) in
+      happens.notes ∙ ap (noted setting before deed) kept ∙ sym (noted_replied setting before txn deed tree (notes_of setting n before))
+      ∙ ap (λ (d : Deed). noted setting before d (notes_of setting n before)) (sym deed_is)
+      ∙ sym (own_more setting n before receipt.event own) ∙ ap (notes_of setting n) (sym happens.front)
+      ∙ ap (λ (k : ℕ). notes_of setting k new.front) (sym happens.goes.number);
   notes = λ all notes.
       let before = happens.before in
       let tree = tree_at (after setting before) (tree_of deed) in
@@ -59,6 +93,11 @@ happens_notes setting old new txn deed receipt happens = record {
 watches_notes : (setting : Setting) (old new : PassView) → Watches setting old new → KeepsNotes setting old new
 watches_notes setting old new watches = record {
   rights = watches.rights;
+  number = watches.goes.number;
+  front = watches.goes.front;
+  sound = λ sound. watches.goes.sound;
+  own = λ sound notes.
+      own_notes_still setting old new sound watches.goes.sound watches.goes.front watches.goes.number watches.mine watches.notes notes;
   notes = λ all notes. watches.notes ∙ notes ∙ ap (notes_in setting) (sym (watches.alone all));
 }
 

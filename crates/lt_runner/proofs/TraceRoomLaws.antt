@@ -89,7 +89,7 @@ numbered_txns trace is_trace = all_in [] trace.lines tt (least_in (whole trace).
 
 -- There is room.
 
-most_is_low : (lines txns trees : ℕ) → lines ≤ 65536 → txns ≤ 1024 → trees ≤ 16 → most_of lines txns trees ≤ 144637053000
+pub most_is_low : (lines txns trees : ℕ) → lines ≤ 65536 → txns ≤ 1024 → trees ≤ 16 → most_of lines txns trees ≤ 144637053000
 most_is_low lines txns trees few_l few_x few_t =
     let one = mul-le (2 * lines + 2 * txns + 2) (txns + 1) 133122 1025 (omega arith) (omega arith) in
     let two = mul-le ((2 * lines + 2 * txns + 2) * (txns + 1)) (2 * trees + txns + 4) (133122 * 1025) 1060 one (omega arith) in

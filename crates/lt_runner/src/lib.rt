@@ -17,7 +17,7 @@ mod transcript;
 mod turn;
 
 pub use release::Release;
-pub use serial::run_serial;
+pub use serial::{numbers, run_serial};
 pub use transcript::Transcript;
 pub use turn::{Moved, Turn};
 

@@ -17,8 +17,8 @@ use lt_watch::{Tells, tell_notes};
 use std::alloc::{AllocError, Global};
 use std::collections::BTreeSet;
 
-/// The numbers of the transactions.
-fn numbers(alloc: Global, lines: &[Line]) -> Result<BTreeSet<u64>, AllocError>
+/// The numbers of the transactions that have lines.
+pub fn numbers(alloc: Global, lines: &[Line]) -> Result<BTreeSet<u64>, AllocError>
     ensures { IfOk result (λ numbers. numbers.keys ≡ txns_of lines.now) }
 {
     let mut numbers = BTreeSet::new(alloc);

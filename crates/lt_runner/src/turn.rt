@@ -7,6 +7,7 @@ ghost use Rattle.lt_runner.specs.declared.release.Release.{Release as ReleaseOf}
 ghost use Rattle.lt_runner.specs.TurnView.{Seat};
 ghost use Rattle.lt_runner.specs.Turn.{answered_by, granted_to, past, ending, rest_of_release};
 ghost use Rattle.lt_runner.specs.Plays.{next_wish, own_of, has_last, lines_for};
+ghost use Rattle.lt_runner.specs.Played.{IsOver};
 ghost use Rattle.lt_runner.specs.Serial.{ended_in, is_ready};
 ghost use Rattle.lt_runner.specs.Seats.{opening_seat, idle, with_line, with_lines, granted_at};
 
@@ -177,6 +178,14 @@ impl Turn {
         ensures { result ≡ is_some self.now.turn.outcome }
     {
         self.outcome.is_some()
+    }
+
+    /// Whether it has ended and has given back all.
+    pub fn is_over(&self) -> bool
+        ensures over { IsTrue result → IsOver self.now }
+        ensures left { result ≡ false → IsOver self.now → ⊥ }
+    {
+        self.outcome.is_some() && self.releases.is_empty()
     }
 
     /// Whether it goes on: it has not ended, and does not wait.

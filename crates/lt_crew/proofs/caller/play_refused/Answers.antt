@@ -1,4 +1,5 @@
 use Rattle.std.proofs.Common.{rules, arith}
+use Rattle.lt_runner.proofs.NoteLaws.{keeps_notes_then}
 use Rattle.lt_crew.proofs.CallersTurnLaws.{places_at, places_stay, plays_on, some_stays, stays_both}
 use Rattle.lt_crew.proofs.caller.play_refused.Goals as goal
 
@@ -23,6 +24,8 @@ loop-place-preserved g c =
     record {
       of = search rules;
       alone = search rules;
+      noted = keeps_notes_then setting (view c.args.pass.now) (view c.loop-place.pass) (view c.play_busy.new.pass) c.loop-place.invariant.noted
+          c.in_ok-play_busy.ensures.noted;
       crew = stays_both setting (view c.args.pass.now) (view c.loop-place.pass) (view c.play_busy.new.pass) c.args.turns.now c.loop-place.turns
           c.play_busy.new.turns c.loop-place.invariant.crew c.in_ok-play_busy.ensures.crew;
       played = more.each;

@@ -1,5 +1,6 @@
 use Rattle.std.proofs.Common.{◌≡◌}
 use Rattle.lt_seq.specs.Yard.{origin_of}
+use Rattle.lt_runner.specs.Notes.{KeepsNotes}
 use Rattle.lt_crew.specs.Caller.{IsAlone, StaysCrew}
 use Rattle.lt_crew.specs.CallersTurn.{ArePaid, IsPlayedOn}
 use Rattle.lt_crew.specs.Workers.{UpTo}
@@ -12,6 +13,7 @@ invariant-loop-place g l =
     record {
       of : g.Y.Pass.Pass.origin l.pass ≡ origin_of (g.Y.Yard.identity l.yard) setting;
       alone : IsAlone setting (view l.pass);
+      noted : KeepsNotes setting (view l.fn.pass) (view l.pass);
       crew : StaysCrew setting (view l.fn.pass).front (view l.pass).front l.fn.turns l.turns;
       played : UpTo IsPlayedOn l.place l.fn.turns l.turns;
       paid : ArePaid setting (view l.fn.pass) (view l.pass) l.fn.turns l.turns 0;

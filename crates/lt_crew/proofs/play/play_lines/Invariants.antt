@@ -2,6 +2,7 @@ use Rattle.std.proofs.Common.{◌≡◌, ◌≤◌, [], length}
 use Rattle.lt_seq.specs.Yard.{origin_of}
 use Rattle.lt_runner.specs.PlaysOn.{IsFit, IsReady, PlaysOn}
 use Rattle.lt_runner.specs.Work.{Spends}
+use Rattle.lt_runner.specs.Notes.{KeepsNotes}
 use Rattle.lt_crew.specs.Crew.{IsStuck}
 use Rattle.lt_crew.proofs.StillLaws.{IsWithin}
 use Rattle.lt_crew.proofs.play.play_lines.Given as goal
@@ -13,6 +14,7 @@ invariant-loop-line g l =
     record {
       of : g.Y.Pass.Pass.origin l.pass ≡ origin_of (g.Y.Yard.identity l.yard) setting;
       ready : IsReady setting (view l.pass);
+      noted : KeepsNotes setting (view l.fn.pass) (view l.pass);
       fit : IsFit setting l.turn;
       plays : PlaysOn setting [] (view l.fn.pass) (view l.pass) l.fn.turn l.turn;
       spends : Spends setting (view l.fn.pass) (view l.pass) l.fn.turn l.turn;
