@@ -37,7 +37,8 @@ HasRoomFor setting history seats =
 
 -- A round and the caller's turn behind it leave such a crew, nearer to its end: each that waits is registered, fewer steps are left, and
 -- the bound did not rise.
-pub record ComesNearer (setting : Setting) (before history : List Event) (registry registry_now : List Wish) (were are : List Seat) : Type 0 where
+pub record ComesNearer (setting : Setting) (before history : List Event) (registry registry_now : List Wish)
+    (were are : List Seat) : Type 0 where
   pub stays : AsksStay setting before history registry registry_now were are
   pub count : length are ≡ length were
   pub listed : AllWaitersListed are
