@@ -1,31 +1,38 @@
 -- What is to be written.
-use Rattle.std.specs.Prelude.{◌≡◌, ℕ, ◌⊎◌, List, map, false}
+use Rattle.std.specs.Prelude.{◌≡◌, ℕ, ◌⊎◌, List}
 use Rattle.lt_trace.specs.Trace.{TraceView}
 use Rattle.lt_trace.specs.Grammar.{front_text, whole, Spells, IsFirstFault}
 use Rattle.lt_trace.specs.Generator.{generated}
 use Rattle.lt_trace.specs.declared.fault.TraceFault.{TraceFault}
 use Rattle.lt_history.specs.Summary.{summary_line}
-use Rattle.lt_watch.specs.Tellings.{Log, after_notes}
-use Rattle.lt_runner.specs.Serial.{serial, ran_text, setting_of}
-use Rattle.lt_runner.specs.Notes.{run_notes}
-use Rattle.lt_runner.specs.Run.{IsRunText}
+use Rattle.lt_watch.specs.Tellings.{Log}
+use Rattle.lt_runner.specs.Serial.{serial}
 use Rattle.lt_program.specs.Refusal.{fault_text}
+use Rattle.lt_program.specs.Runs.{HasPlayed}
 use Rattle.lt_program.specs.declared.answer.Answer.{Answer}
 use Rattle.lt_program.specs.declared.answer.Answer.TheVariants.{Text, Refusal}
+use Rattle.lt_program.specs.declared.player.Player.{Player}
 use Rattle.lt_program.specs.declared.words.Recipe.{Recipe}
 
--- For the bytes that were read.
+-- For the bytes that were read, with what the watches were told before and after.
 
--- The text for the trace that the bytes spell, the transcript of the plain scheduler, or the line of their first fault.
-abbrev pub IsAnswer : List ℕ → Answer → Type 0
-IsAnswer bytes (Text text) = (trace : TraceView) × Spells bytes trace × (text.items ≡ ran_text (serial trace 0))
-IsAnswer bytes (Refusal line) = (f : TraceFault) × IsFirstFault bytes f × (line.items ≡ fault_text f)
+-- The bytes spell a trace, and it was played.
+pub record IsPlayed (player : Player) (bytes written : List ℕ) (before after : List Log) : Type 0 where
+  pub trace : TraceView
+  pub spelled : Spells bytes trace
+  pub played : HasPlayed player trace written before after
 
--- It is the text of a run: of one legal history in which each transaction of the trace is played to its end and no
--- other has an event, where no two transactions ever hold overlapping ranges, each refusal names exactly the other
--- owners that overlap, and a join takes no held key away and gives none that another holds.
-abbrev pub IsTextOfRun : TraceView → List ℕ → Type 0
-IsTextOfRun trace text = IsRunText false (setting_of trace 1 0) trace.lines text
+-- They are no trace, this is the line of their first fault, and the watches were told nothing.
+pub record IsRefused (bytes line : List ℕ) (before after : List Log) : Type 0 where
+  pub fault : TraceFault
+  pub first : IsFirstFault bytes fault
+  pub line_is : line ≡ fault_text fault
+  pub untold : after ≡ before
+
+-- the text of a run of the trace that the bytes spell, or the line that refuses them
+abbrev pub IsAnswer : Player → List ℕ → Answer → List Log → List Log → Type 0
+IsAnswer player bytes (Text text) before after = IsPlayed player bytes text.items before after
+IsAnswer player bytes (Refusal line) before after = IsRefused bytes line.items before after
 
 abbrev pub status_of : Answer → ℕ
 status_of (Text text) = 0
@@ -35,26 +42,9 @@ abbrev pub bytes_of : Answer → List ℕ
 bytes_of (Text text) = text.items
 bytes_of (Refusal line) = line.items
 
--- For the watches, by what each was told before and after.
-
--- they were told the joins of this trace's run, each once and by place, but for those that did not fit
-abbrev pub HasTold : TraceView → List Log → List Log → Type 0
-HasTold trace before after = after ≡ map (after_notes (run_notes trace 0)) before
-
--- those of the trace that the bytes spell
-pub record IsTold (bytes : List ℕ) (before after : List Log) : Type 0 where
-  pub trace : TraceView
-  pub spelled : Spells bytes trace
-  pub told : HasTold trace before after
-
--- where the bytes are no trace they were told nothing
-abbrev pub IsToldBy : List ℕ → Answer → List Log → List Log → Type 0
-IsToldBy bytes (Text text) before after = IsTold bytes before after
-IsToldBy bytes (Refusal line) before after = after ≡ before
-
--- they were told nothing, or all of it
-abbrev pub IsToldOrNot : List ℕ → List Log → List Log → Type 0
-IsToldOrNot bytes before after = (after ≡ before) ⊎ IsTold bytes before after
+-- without an answer the watches were told nothing, or all joins of a run of the trace
+abbrev pub IsToldOrNot : Player → List ℕ → List Log → List Log → Type 0
+IsToldOrNot player bytes before after = (after ≡ before) ⊎ ((written : List ℕ) × IsPlayed player bytes written before after)
 
 -- For a trace that is made.
 

@@ -1,4 +1,5 @@
 pub mod Words
 pub mod Refusal
+pub mod Runs
 pub mod Answers
 pub mod Statuses

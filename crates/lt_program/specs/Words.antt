@@ -3,7 +3,9 @@ use Rattle.std.specs.Prelude.{◌≡◌, ℕ, ◌<◌, ◌≤◌, ◌^◌, ◌-�
 use Rattle.lt_trace.specs.Grammar.{IsNumber}
 use Rattle.lt_program.specs.declared.words.Recipe.{Recipe}
 use Rattle.lt_program.specs.declared.words.Command.{Command}
-use Rattle.lt_program.specs.declared.words.Command.TheVariants.{Serial, Make, Sum}
+use Rattle.lt_program.specs.declared.words.Command.TheVariants.{Serial, Crew, Make, Sum}
+use Rattle.lt_program.specs.declared.player.Player.{Player}
+use Rattle.lt_program.specs.declared.player.Player.TheVariants as players
 
 -- the numbers are in the ranges of the generator
 pub record IsRecipe (recipe : Recipe) : Type 0 where
@@ -24,15 +26,31 @@ pub record IsMaker (word : List ℕ) (words : List (List ℕ)) (recipe : Recipe)
   pub words_are : words ≡ word ∷ decimal recipe.seed ∷ decimal recipe.txns ∷ decimal recipe.lines ∷ []
   pub ranges : IsRecipe recipe
 
+-- the words are `crew` and this number of workers
+pub record AreCrew (words : List (List ℕ)) (workers : ℕ) : Type 0 where
+  pub words_are : words ≡ codes "crew" ∷ decimal workers ∷ []
+  pub some_workers : 1 ≤ workers
+  pub few_workers : workers ≤ 16
+
 -- the words are this command's form
 abbrev pub IsCommand : List (List ℕ) → Command → Type 0
 IsCommand words Serial = words ≡ codes "serial" ∷ []
+IsCommand words (Crew workers) = AreCrew words workers
 IsCommand words (Make recipe) = IsMaker (codes "make") words recipe
 IsCommand words (Sum recipe) = IsMaker (codes "sum") words recipe
 
 -- they are none of the forms
 abbrev pub IsNoCommand : List (List ℕ) → Type 0
 IsNoCommand words = (command : Command) → ¬ IsCommand words command
+
+-- the command by which this player plays what is read
+abbrev pub command_by : Player → Command
+command_by players.Serial = Serial
+command_by (players.Crew workers) = Crew workers
+
+-- they are a command that plays a trace, which it reads
+abbrev pub ArePlayers : List (List ℕ) → Type 0
+ArePlayers words = (player : Player) × IsCommand words (command_by player)
 
 -- they are a command that makes a trace, and asks the source for nothing
 abbrev pub AreMakers : List (List ℕ) → Type 0

@@ -3,6 +3,7 @@
 
 mod answer;
 mod making;
+mod player;
 mod playing;
 mod refusal;
 mod running;
@@ -16,6 +17,8 @@ pub use words::{Command, Recipe, command_of};
 
 #[cfg(test)]
 mod tests;
+#[cfg(test)]
+mod tests_of_crews;
 #[cfg(test)]
 mod tests_of_makers;
 #[cfg(test)]

@@ -4,35 +4,44 @@ ghost use Rattle.std.specs.Io.KnownBytes.{Appends};
 ghost use Rattle.lt_edge.specs.Bytes.{AppendsPart};
 ghost use Rattle.lt_edge.specs.Causes.{Rose};
 ghost use Rattle.lt_program.specs.Answers.{status_of, bytes_of};
+ghost use Rattle.lt_program.specs.Runs.{MayPlay};
 ghost use Rattle.lt_program.specs.Statuses.{Plays, Refuses, BreaksOff, TellsOrNot, PlaysOrRefuses};
 
 use crate::answer::{Answer, answer_to};
+use crate::player::Player;
 use crate::status;
+use lt_crew::Gate;
 use lt_edge::{ReadFault, Sink, Source, put_all, read_all};
 use lt_trace::DECIDING_BYTES;
 use lt_watch::Tells;
 use std::alloc::Global;
+use std::thread::Threads;
 
-/// Reads the source to its end, plays what it has as a trace, tells the watches the joins, and writes the text or a refusal
-/// to the sink.
-pub(crate) fn play<S: Source, K: Sink, T: Tells>(
+/// Reads the source to its end, has this player play what it has as a trace, tells the watches the joins, and writes the text
+/// or a refusal to the sink.
+pub(crate) fn play<R: Threads + Sync, S: Source, K: Sink, T: Tells, G: Gate>(
+    rt: &R,
     alloc: Global,
+    player: Player,
     source: &mut S,
     sink: &mut K,
     watch: &mut T,
+    gate: &G,
 ) -> u8
-    ensures done { result ≡ 0 → Plays (S.left source.old) (S.left source.new) (K.taken sink.old) (K.taken sink.new)
+    requires { MayPlay player }
+    ensures done { result ≡ 0 → Plays player (S.left source.old) (S.left source.new) (K.taken sink.old) (K.taken sink.new)
         (T.logs watch.old) (T.logs watch.new) }
     ensures refused { result ≡ 3 → Refuses (S.left source.old) (S.left source.new) (K.taken sink.old) (K.taken sink.new) }
     ensures unread { result ≡ 4 → Rose (S.faults source.old) (S.faults source.new) }
     ensures unwritten { result ≡ 5 → Rose (K.faults sink.old) (K.faults sink.new) }
-    ensures part { result ≡ 5 → BreaksOff (S.left source.old) (S.left source.new) (K.taken sink.old) (K.taken sink.new) }
+    ensures part { result ≡ 5 → BreaksOff player (S.left source.old) (S.left source.new) (K.taken sink.old) (K.taken sink.new)
+        (T.logs watch.old) (T.logs watch.new) }
     ensures only { Contains (0 ∷ 3 ∷ 4 ∷ 5 ∷ 6 ∷ []) result }
     ensures read { result ≢ 4 → S.faults source.new ≡ S.faults source.old }
     ensures written { result ≢ 5 → K.faults sink.new ≡ K.faults sink.old }
     ensures silent { (result ≡ 4) ⊎ (result ≡ 6) → sink.new ≡ sink.old }
     ensures untold { (result ≡ 3) ⊎ (result ≡ 4) → T.logs watch.new ≡ T.logs watch.old }
-    ensures told_or_not { (result ≡ 5) ⊎ (result ≡ 6) → TellsOrNot (S.left source.old) (T.logs watch.old) (T.logs watch.new) }
+    ensures told_or_not { (result ≡ 5) ⊎ (result ≡ 6) → TellsOrNot player (S.left source.old) (T.logs watch.old) (T.logs watch.new) }
     ensures complete { ¬ Rose (S.faults source.old) (S.faults source.new) → ¬ Rose (K.faults sink.old) (K.faults sink.new) →
         PlaysOrRefuses (S.left source.old) result }
 {
@@ -41,7 +50,7 @@ pub(crate) fn play<S: Source, K: Sink, T: Tells>(
         Err(ReadFault::Failed) => return status::UNREAD,
         Err(ReadFault::OutOfMemory) => return status::NO_MEMORY,
     };
-    match answer_to(alloc, &bytes, watch) {
+    match answer_to(rt, alloc, player, &bytes, watch, gate) {
         Ok(answer) => deliver(sink, &answer),
         Err(_) => status::NO_MEMORY,
     }

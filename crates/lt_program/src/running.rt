@@ -3,42 +3,46 @@ ghost use Rattle.std.specs.Prelude.{◌≡◌, ◌≢◌, ◌⊎◌, ◌↔◌, 
 ghost use Rattle.std.specs.Io.KnownBytes.{Appends};
 ghost use Rattle.lt_edge.specs.Bytes.{AppendsPart};
 ghost use Rattle.lt_edge.specs.Causes.{Rose};
-ghost use Rattle.lt_program.specs.Words.{IsCommand, IsNoCommand, AreMakers};
+ghost use Rattle.lt_program.specs.Words.{IsCommand, IsNoCommand, ArePlayers, AreMakers};
 ghost use Rattle.lt_program.specs.declared.words.Command.{Command};
-ghost use Rattle.lt_program.specs.declared.words.Command.TheVariants.{Serial};
-ghost use Rattle.lt_program.specs.Statuses.{Works, Refuses, Breaks, TellsOrNot, IsComplete};
+ghost use Rattle.lt_program.specs.Statuses.{Works, Refuses, Breaks, TellsAsAsked, IsComplete};
 
 use crate::making::{made_text, sum_text};
+use crate::player::Player;
 use crate::playing::play;
 use crate::status;
 use crate::words::{Command, command_of};
+use lt_crew::Gate;
 use lt_edge::{Sink, Source, put_all};
 use lt_watch::Tells;
 use std::alloc::{AllocError, Global};
+use std::thread::Threads;
 
 /// Does what the words ask for, and gives the status with which the program ends (see [`status`]).
 ///
-/// `serial` reads the source to its end, writes the text of the trace's run or a refusal to the sink, and tells each watch
-/// the joins of the run, once and by place. The words come first, then all is read, then it is read as a trace, then the trace
-/// is played, and at last all is written: nothing is written before all was read and played. `make` and `sum` write what they
-/// make, read nothing, and tell nobody.
-pub fn run<S: Source, K: Sink, T: Tells>(
+/// `serial` and `crew` read the source to its end, write the text of a run of the trace or a refusal to the sink, and tell each
+/// watch the joins of that run, once and by place. The words come first, then all is read, then it is read as a trace, then
+/// the trace is played, and at last all is written: nothing is written before all was read and played. A crew calls the gate
+/// round each line that a worker plays. `make` and `sum` write what they make, read nothing, and tell nobody.
+pub fn run<R: Threads + Sync, S: Source, K: Sink, T: Tells, G: Gate>(
+    rt: &R,
     alloc: Global,
     words: &[String],
     source: &mut S,
     sink: &mut K,
     watch: &mut T,
+    gate: &G,
 ) -> u8
     ensures usage { (result ≡ 2) ↔ IsNoCommand (map string_bytes words.now) }
     ensures command { result ≢ 2 → (command : Command) × IsCommand (map string_bytes words.now) command }
     ensures done { result ≡ 0 → Works (map string_bytes words.now)
         (S.left source.old) (S.left source.new) (K.taken sink.old) (K.taken sink.new) (T.logs watch.old) (T.logs watch.new) }
-    ensures refused { result ≡ 3 → IsCommand (map string_bytes words.now) Serial × Refuses
+    ensures refused { result ≡ 3 → ArePlayers (map string_bytes words.now) × Refuses
         (S.left source.old) (S.left source.new) (K.taken sink.old) (K.taken sink.new) }
-    ensures unread { result ≡ 4 → IsCommand (map string_bytes words.now) Serial × Rose (S.faults source.old) (S.faults source.new) }
+    ensures unread { result ≡ 4 → ArePlayers (map string_bytes words.now) × Rose (S.faults source.old) (S.faults source.new) }
     ensures unwritten { result ≡ 5 → Rose (K.faults sink.old) (K.faults sink.new) }
     ensures part { result ≡ 5 → Breaks (map string_bytes words.now)
-        (S.left source.old) (S.left source.new) (K.taken sink.old) (K.taken sink.new) }
+        (S.left source.old) (S.left source.new) (K.taken sink.old) (K.taken sink.new) (T.logs watch.old) (T.logs watch.new) }
 
     // Nothing else is a status, and no fault is passed over.
     ensures only { Contains (0 ∷ 2 ∷ 3 ∷ 4 ∷ 5 ∷ 6 ∷ []) result }
@@ -50,7 +54,8 @@ pub fn run<S: Source, K: Sink, T: Tells>(
     ensures silent { (result ≡ 2) ⊎ (result ≡ 4) ⊎ (result ≡ 6) → sink.new ≡ sink.old }
     ensures unwatched { (result ≡ 2) ⊎ AreMakers (map string_bytes words.now) → watch.new ≡ watch.old }
     ensures untold { (result ≡ 3) ⊎ (result ≡ 4) → T.logs watch.new ≡ T.logs watch.old }
-    ensures told_or_not { (result ≡ 5) ⊎ (result ≡ 6) → TellsOrNot (S.left source.old) (T.logs watch.old) (T.logs watch.new) }
+    ensures told_or_not { (result ≡ 5) ⊎ (result ≡ 6) → TellsAsAsked (map string_bytes words.now)
+        (S.left source.old) (T.logs watch.old) (T.logs watch.new) }
 
     ensures complete { ¬ Rose (S.faults source.old) (S.faults source.new) → ¬ Rose (K.faults sink.old) (K.faults sink.new) →
         IsComplete (map string_bytes words.now) (S.left source.old) result }
@@ -59,7 +64,10 @@ pub fn run<S: Source, K: Sink, T: Tells>(
         return status::USAGE;
     };
     match command {
-        Command::Serial => play(alloc, source, sink, watch),
+        Command::Serial => play(rt, alloc, Player::Serial, source, sink, watch, gate),
+        Command::Crew(workers) => {
+            play(rt, alloc, Player::Crew(workers), source, sink, watch, gate)
+        }
         Command::Make(recipe) => give(sink, made_text(alloc, &recipe)),
         Command::Sum(recipe) => give(sink, sum_text(alloc, &recipe)),
     }

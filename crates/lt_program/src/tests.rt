@@ -1,9 +1,11 @@
 //! What the program writes on worked traces, and where an end fails: the texts here come from outside.
 use crate::run;
+use lt_crew::OpenGate;
 use lt_edge::{MemSink, MemSource};
 use lt_watch::NoWatches;
 use std::alloc::{AllocError, Global};
 use std::test::Fail;
+use std::thread::Threads;
 
 /// The header that stands before the lines of a table.
 pub(crate) const HEADER: &str = "rangelock 1\ntrees 1\nlimit 64\nbuffer 0\n";
@@ -39,7 +41,8 @@ fn numbers(alloc: Global, number: Option<u64>) -> Result<Vec<u64>, AllocError> {
 }
 
 /// The status and what was written, where the source's and the sink's calls of these numbers fail.
-pub(crate) fn run_failing(
+pub(crate) fn run_failing<R: Threads + Sync>(
+    rt: &R,
     alloc: Global,
     words: &[&str],
     input: &str,
@@ -50,23 +53,26 @@ pub(crate) fn run_failing(
     let mut source = MemSource::new(input.as_bytes().to_vec(alloc)?, 16, numbers(alloc, read)?);
     let mut sink = MemSink::new(alloc, 16_384, 8, numbers(alloc, put)?)?;
     let status = run(
+        rt,
         alloc,
         words.as_slice(),
         &mut source,
         &mut sink,
         &mut NoWatches,
+        &OpenGate,
     );
     Ok((status, sink.bytes().to_vec(alloc)?))
 }
 
 /// The status and what was written on these lines.
-pub(crate) fn run_serial(
+pub(crate) fn run_serial<R: Threads + Sync>(
+    rt: &R,
     alloc: Global,
     header: &str,
     lines: &str,
 ) -> Result<(u8, Vec<u8>), AllocError> {
     let input = format!(in alloc; "{header}{lines}")?;
-    run_failing(alloc, &["serial"], input.as_str(), None, None)
+    run_failing(rt, alloc, &["serial"], input.as_str(), None, None)
 }
 
 /// What is shown, the lines of the body, and the transcript.
@@ -118,7 +124,7 @@ const PLAYED: [(&str, &str, &str); 8] = [
 fn traces_are_played(rt: HostRuntime) -> Result<(), Fail> {
     let alloc = rt.alloc();
     for (name, lines, text) in PLAYED {
-        let (status, written) = run_serial(alloc, HEADER, lines)?;
+        let (status, written) = run_serial(&rt, alloc, HEADER, lines)?;
         assert_eq!(rt; status, 0, "at {name}");
         assert_eq!(rt; written.as_slice(), text.as_bytes(), "at {name}");
     }
@@ -201,7 +207,7 @@ const WITH_HEADERS: [(&str, &str, &str, &str); 5] = [
 fn headers_count(rt: HostRuntime) -> Result<(), Fail> {
     let alloc = rt.alloc();
     for (name, header, lines, text) in WITH_HEADERS {
-        let (status, written) = run_serial(alloc, header, lines)?;
+        let (status, written) = run_serial(&rt, alloc, header, lines)?;
         assert_eq!(rt; status, 0, "at {name}");
         assert_eq!(rt; written.as_slice(), text.as_bytes(), "at {name}");
     }
@@ -234,7 +240,7 @@ const REFUSED: [(&str, &str, &str); 10] = [
 fn other_bytes_are_refused(rt: HostRuntime) -> Result<(), Fail> {
     let alloc = rt.alloc();
     for (header, lines, line) in REFUSED {
-        let (status, written) = run_serial(alloc, header, lines)?;
+        let (status, written) = run_serial(&rt, alloc, header, lines)?;
         assert_eq!(rt; status, 3, "for {line}");
         assert_eq!(rt; written.as_slice(), line.as_bytes(), "for {line}");
     }
@@ -247,10 +253,10 @@ fn a_key_has_at_most_63_bytes(rt: HostRuntime) -> Result<(), Fail> {
     let key = "abcdefghijklmnopqrstuvwxyzabcdefghijklmnopqrstuvwxyzabcdefghijk";
     assert_eq!(rt; key.len(), 63);
     let lines = format!(in alloc; "1 try 0 \"{key}\" +\n")?;
-    let (status, _written) = run_serial(alloc, HEADER, lines.as_str())?;
+    let (status, _written) = run_serial(&rt, alloc, HEADER, lines.as_str())?;
     assert_eq!(rt; status, 0);
     let lines = format!(in alloc; "1 try 0 \"{key}l\" +\n")?;
-    let (status, written) = run_serial(alloc, HEADER, lines.as_str())?;
+    let (status, written) = run_serial(&rt, alloc, HEADER, lines.as_str())?;
     assert_eq!(rt; status, 3);
     assert_eq!(rt;
         written.as_slice(),
@@ -262,14 +268,18 @@ fn a_key_has_at_most_63_bytes(rt: HostRuntime) -> Result<(), Fail> {
 #[test]
 fn other_words_are_no_command(rt: HostRuntime) -> Result<(), Fail> {
     let alloc = rt.alloc();
-    let others: [&[&str]; 12] = [
+    let others: [&[&str]; 16] = [
         &[],
         &[""],
         &["serial", ""],
         &["serial "],
         &["serial", "x"],
         &["Serial"],
-        &["crew", "4"],
+        &["crew"],
+        &["crew", ""],
+        &["crew", "4", "4"],
+        &["Crew", "4"],
+        &["crew", "17"],
         &["crew", "0"],
         &["crew", "04"],
         &["crew", "--", "4"],
@@ -277,7 +287,7 @@ fn other_words_are_no_command(rt: HostRuntime) -> Result<(), Fail> {
         &["--help"],
     ];
     for (place, words) in others.iter().enumerate() {
-        let (status, written) = run_failing(alloc, words, HEADER, None, None)?;
+        let (status, written) = run_failing(&rt, alloc, words, HEADER, None, None)?;
         assert_eq!(rt; status, 2, "at {place}");
         assert_eq!(rt; written.len(), 0, "at {place}");
     }
@@ -291,11 +301,18 @@ fn each_call_of_the_source_may_fail(rt: HostRuntime) -> Result<(), Fail> {
     let input = format!(in alloc; "{HEADER}{HELD_LINES}")?;
     assert_eq!(rt; input.len(), 70);
     for call in 0..6u64 {
-        let (status, written) = run_failing(alloc, &["serial"], input.as_str(), Some(call), None)?;
+        let (status, written) = run_failing(
+            &rt,
+            alloc,
+            &["serial"],
+            input.as_str(),
+            Some(call),
+            None,
+        )?;
         assert_eq!(rt; status, 4, "at {call}");
         assert_eq!(rt; written.len(), 0, "at {call}");
     }
-    let (status, written) = run_failing(alloc, &["serial"], input.as_str(), Some(6), None)?;
+    let (status, written) = run_failing(&rt, alloc, &["serial"], input.as_str(), Some(6), None)?;
     assert_eq!(rt; status, 0);
     assert_eq!(rt; written.as_slice(), HELD_TEXT.as_bytes());
     Ok(())
@@ -310,11 +327,11 @@ fn each_put_of_the_sink_may_fail(rt: HostRuntime) -> Result<(), Fail> {
     assert_eq!(rt; text.len(), 105);
     for call in 0..14usize {
         let put = Some(call as u64);
-        let (status, written) = run_failing(alloc, &["serial"], input.as_str(), None, put)?;
+        let (status, written) = run_failing(&rt, alloc, &["serial"], input.as_str(), None, put)?;
         assert_eq!(rt; status, 5, "at {call}");
         assert_eq!(rt; written.as_slice(), &text[..8 * call], "at {call}");
     }
-    let (status, written) = run_failing(alloc, &["serial"], input.as_str(), None, Some(14))?;
+    let (status, written) = run_failing(&rt, alloc, &["serial"], input.as_str(), None, Some(14))?;
     assert_eq!(rt; status, 0);
     assert_eq!(rt; written.as_slice(), text);
     Ok(())

@@ -1,10 +1,12 @@
 //! Traces that are made, and watches that are told.
 use crate::run_unfailing;
 use crate::tests::{HEADER, owned, run_failing};
+use lt_crew::OpenGate;
 use lt_edge::{NoFailSink, NoFailSource};
 use lt_watch::{ListWatch, Watchers};
 use std::alloc::Global;
 use std::test::Fail;
+use std::thread::Threads;
 
 const LEAST_TRACE: &str =
     "rangelock 1\ntrees 2\nlimit 4096\nbuffer 512\n1 try 1 \"06987\" \"06987\"\n1 end\n";
@@ -24,11 +26,11 @@ const MADE: [(&[&str], &str); 3] = [
 fn traces_are_made_and_summed_without_reading(rt: HostRuntime) -> Result<(), Fail> {
     let alloc = rt.alloc();
     for (words, text) in MADE {
-        let (status, written) = run_failing(alloc, words, "", Some(0), None)?;
+        let (status, written) = run_failing(&rt, alloc, words, "", Some(0), None)?;
         assert_eq!(rt; status, 0, "at {text}");
         assert_eq!(rt; written.as_slice(), text.as_bytes(), "at {text}");
     }
-    let (status, written) = run_failing(alloc, &["make", "0", "1", "1"], "", None, Some(2))?;
+    let (status, written) = run_failing(&rt, alloc, &["make", "0", "1", "1"], "", None, Some(2))?;
     assert_eq!(rt; status, 5);
     assert_eq!(rt; written.as_slice(), &LEAST_TRACE.as_bytes()[..16]);
     Ok(())
@@ -56,7 +58,7 @@ const NO_COMMAND: [&[&str]; 14] = [
 fn maker_words_must_be_in_range(rt: HostRuntime) -> Result<(), Fail> {
     let alloc = rt.alloc();
     for words in NO_COMMAND {
-        let (status, written) = run_failing(alloc, words, "", Some(0), Some(0))?;
+        let (status, written) = run_failing(&rt, alloc, words, "", Some(0), Some(0))?;
         assert_eq!(rt; status, 2);
         assert_eq!(rt; written.len(), 0);
     }
@@ -64,7 +66,13 @@ fn maker_words_must_be_in_range(rt: HostRuntime) -> Result<(), Fail> {
 }
 
 /// The status of a run between ends that never fail, and the joins that a watch of so many items was told.
-fn joins_told(alloc: Global, header: &str, lines: &str, items: usize) -> Result<(u8, u64), Fail> {
+fn joins_told<R: Threads + Sync>(
+    rt: &R,
+    alloc: Global,
+    header: &str,
+    lines: &str,
+    items: usize,
+) -> Result<(u8, u64), Fail> {
     let words = owned(alloc, &["serial"])?;
     let input = format!(in alloc; "{header}{lines}")?;
     let mut watch = Watchers::new(alloc);
@@ -72,7 +80,15 @@ fn joins_told(alloc: Global, header: &str, lines: &str, items: usize) -> Result<
     watch.add(list).map_err(|_| "no room for the watch")?;
     let mut source = NoFailSource::new(input.into_bytes());
     let mut sink = NoFailSink::new();
-    let status = run_unfailing(alloc, &words, &mut source, &mut sink, &mut watch);
+    let status = run_unfailing(
+        rt,
+        alloc,
+        &words,
+        &mut source,
+        &mut sink,
+        &mut watch,
+        &OpenGate,
+    );
     let told = watch.take_back(0).ok_or("the watch")?;
     Ok((status, told.joins()))
 }
@@ -86,8 +102,14 @@ const JOINED_LINES: &str = "1 lock 0 \"a\" \"a\"\n1 lock 0 \"b\" \"b\"\n1 lock 0
 #[test]
 fn a_watch_is_told_a_join_that_fits(rt: HostRuntime) -> Result<(), Fail> {
     let alloc = rt.alloc();
-    assert_eq!(rt; joins_told(alloc, LIMIT_OF_TWO, JOINED_LINES, 2)?, (0, 1));
-    assert_eq!(rt; joins_told(alloc, LIMIT_OF_TWO, JOINED_LINES, 1)?, (0, 0));
-    assert_eq!(rt; joins_told(alloc, HEADER, JOINED_LINES, 2)?, (0, 0));
+    assert_eq!(rt;
+        joins_told(&rt, alloc, LIMIT_OF_TWO, JOINED_LINES, 2)?,
+        (0, 1)
+    );
+    assert_eq!(rt;
+        joins_told(&rt, alloc, LIMIT_OF_TWO, JOINED_LINES, 1)?,
+        (0, 0)
+    );
+    assert_eq!(rt; joins_told(&rt, alloc, HEADER, JOINED_LINES, 2)?, (0, 0));
     Ok(())
 }

@@ -1,10 +1,12 @@
 //! What the program writes where transactions wait, join, fill a buffer or are big: the texts here come from outside.
 use crate::run;
 use crate::tests::{HEADER, run_failing, run_serial};
+use lt_crew::OpenGate;
 use lt_edge::{MemSink, MemSource};
 use lt_watch::NoWatches;
 use std::alloc::{AllocError, Global};
 use std::test::Fail;
+use std::thread::Threads;
 
 /// Two transactions that wait for each other, and the transcript.
 const DEADLOCK_LINES: &str =
@@ -84,7 +86,7 @@ const WAITS: [(&str, &str, &str, &str); 4] = [
 fn waits_are_played(rt: HostRuntime) -> Result<(), Fail> {
     let alloc = rt.alloc();
     for (name, header, lines, text) in WAITS {
-        let (status, written) = run_serial(alloc, header, lines)?;
+        let (status, written) = run_serial(&rt, alloc, header, lines)?;
         assert_eq!(rt; status, 0, "at {name}");
         assert_eq!(rt; written.as_slice(), text.as_bytes(), "at {name}");
     }
@@ -199,7 +201,7 @@ const JOINS: [(&str, &str, &str, &str); 6] = [
 fn joins_are_played(rt: HostRuntime) -> Result<(), Fail> {
     let alloc = rt.alloc();
     for (name, header, lines, text) in JOINS {
-        let (status, written) = run_serial(alloc, header, lines)?;
+        let (status, written) = run_serial(&rt, alloc, header, lines)?;
         assert_eq!(rt; status, 0, "at {name}");
         assert_eq!(rt; written.as_slice(), text.as_bytes(), "at {name}");
     }
@@ -262,7 +264,7 @@ const BUFFERS: [(&str, &str, &str); 3] = [
 fn buffers_are_played(rt: HostRuntime) -> Result<(), Fail> {
     let alloc = rt.alloc();
     for (name, lines, text) in BUFFERS {
-        let (status, written) = run_serial(alloc, BUFFERS_OF_FOUR, lines)?;
+        let (status, written) = run_serial(&rt, alloc, BUFFERS_OF_FOUR, lines)?;
         assert_eq!(rt; status, 0, "at {name}");
         assert_eq!(rt; written.as_slice(), text.as_bytes(), "at {name}");
     }
@@ -308,7 +310,7 @@ fn a_hundred_releases_let_a_buffer_begin(rt: HostRuntime) -> Result<(), Fail> {
     let alloc = rt.alloc();
     let lines = lines_of_a_hundred(alloc)?;
     let text = text_of_a_hundred(alloc)?;
-    let (status, written) = run_serial(alloc, BUFFERS_OF_FOUR, lines.as_str())?;
+    let (status, written) = run_serial(&rt, alloc, BUFFERS_OF_FOUR, lines.as_str())?;
     assert_eq!(rt; status, 0);
     assert_eq!(rt; written.as_slice(), text.as_bytes());
     Ok(())
@@ -322,34 +324,54 @@ fn each_end_may_fail_at_a_deadlock(rt: HostRuntime) -> Result<(), Fail> {
     let text = DEADLOCK_TEXT.as_bytes();
     assert_eq!(rt; (input.len(), text.len()), (106, 267));
     for call in 0..8u64 {
-        let (status, written) = run_failing(alloc, &["serial"], input.as_str(), Some(call), None)?;
+        let (status, written) = run_failing(
+            &rt,
+            alloc,
+            &["serial"],
+            input.as_str(),
+            Some(call),
+            None,
+        )?;
         assert_eq!(rt; status, 4, "at {call}");
         assert_eq!(rt; written.len(), 0, "at {call}");
     }
     for call in 0..34usize {
         let put = Some(call as u64);
-        let (status, written) = run_failing(alloc, &["serial"], input.as_str(), None, put)?;
+        let (status, written) = run_failing(&rt, alloc, &["serial"], input.as_str(), None, put)?;
         assert_eq!(rt; status, 5, "at {call}");
         assert_eq!(rt; written.as_slice(), &text[..8 * call], "at {call}");
     }
-    let (status, written) = run_failing(alloc, &["serial"], input.as_str(), Some(8), Some(34))?;
+    let (status, written) = run_failing(
+        &rt,
+        alloc,
+        &["serial"],
+        input.as_str(),
+        Some(8),
+        Some(34),
+    )?;
     assert_eq!(rt; status, 0);
     assert_eq!(rt; written.as_slice(), text);
     Ok(())
 }
 
 /// The status and what was written on these bytes.
-fn run_on(alloc: Global, input: &[u8]) -> Result<(u8, Vec<u8>), AllocError> {
+fn run_on<R: Threads + Sync>(
+    rt: &R,
+    alloc: Global,
+    input: &[u8],
+) -> Result<(u8, Vec<u8>), AllocError> {
     let mut words = Vec::new(alloc);
     words.push(String::from_str(alloc, "serial")?)?;
     let mut source = MemSource::new(input.to_vec(alloc)?, 16, Vec::new(alloc));
     let mut sink = MemSink::new(alloc, 4096, 64, Vec::new(alloc))?;
     let status = run(
+        rt,
         alloc,
         words.as_slice(),
         &mut source,
         &mut sink,
         &mut NoWatches,
+        &OpenGate,
     );
     Ok((status, sink.bytes().to_vec(alloc)?))
 }
@@ -374,7 +396,7 @@ fn each_front_of_a_trace_has_its_answer(rt: HostRuntime) -> Result<(), Fail> {
     for len in 0..=input.len() {
         let front = &input.as_bytes()[..len];
         let line = line_behind(front);
-        let (status, written) = run_on(alloc, front)?;
+        let (status, written) = run_on(&rt, alloc, front)?;
         if !front.is_empty() && !front.ends_with(b"\n") {
             let refusal = format!(in alloc; "refused {line} 10 no final newline\n")?;
             assert_eq!(rt; status, 3, "at {len}");

@@ -3,29 +3,32 @@ ghost use Rattle.std.specs.Prelude.{◌≡◌, ◌⊎◌, ◌↔◌, Some, None,
 ghost use Rattle.lt_trace.specs.Trace.{TraceView};
 ghost use Rattle.lt_trace.specs.Grammar.{Spells};
 ghost use Rattle.lt_program.specs.Statuses.{Works};
-ghost use Rattle.lt_program.specs.Words.{IsCommand, IsNoCommand, AreMakers};
-ghost use Rattle.lt_program.specs.declared.words.Command.TheVariants.{Serial};
+ghost use Rattle.lt_program.specs.Words.{IsNoCommand, ArePlayers, AreMakers};
 
 use crate::running::run;
+use lt_crew::Gate;
 use lt_edge::{NoFailSink, NoFailSource};
 use lt_watch::Tells;
 use std::alloc::Global;
+use std::thread::Threads;
 
 /// Does what the words ask for, as [`run`] does, from a source and to a sink that never fail. Where the words are a command,
 /// and what the source has is a trace if one is wanted, the status is 0, or 6 for want of memory.
-pub fn run_unfailing<T: Tells>(
+pub fn run_unfailing<R: Threads + Sync, T: Tells, G: Gate>(
+    rt: &R,
     alloc: Global,
     words: &[String],
     source: &mut NoFailSource,
     sink: &mut NoFailSink,
     watch: &mut T,
+    gate: &G,
 ) -> u8
     ensures usage { (result ≡ 2) ↔ IsNoCommand (map string_bytes words.now) }
     ensures done { result ≡ 0 → Works (map string_bytes words.now) (Some source.old) (Some source.new) None None
         (T.logs watch.old) (T.logs watch.new) }
-    ensures plays { (trace : TraceView) → IsCommand (map string_bytes words.now) Serial → Spells source.old trace
+    ensures plays { (trace : TraceView) → ArePlayers (map string_bytes words.now) → Spells source.old trace
         → (result ≡ 0) ⊎ (result ≡ 6) }
     ensures makes { AreMakers (map string_bytes words.now) → (result ≡ 0) ⊎ (result ≡ 6) }
 {
-    run(alloc, words, source, sink, watch)
+    run(rt, alloc, words, source, sink, watch, gate)
 }

@@ -5,6 +5,9 @@ ghost use Rattle.lt_program.specs.Words.{IsCommand, IsNoCommand, SpellRecipe};
 
 use lt_trace::{MOST_DRAWN_LINES, number};
 
+/// The most workers of a crew.
+const MOST_WORKERS: u64 = 16;
+
 /// The numbers that a trace is made of.
 #[derive(Clone, Copy, Debug, PartialEq, Eq, Hash)]
 pub struct Recipe {
@@ -21,6 +24,8 @@ pub struct Recipe {
 pub enum Command {
     /// `serial`: play the trace that is read with the plain scheduler.
     Serial,
+    /// `crew N`: play the trace that is read by a crew of so many workers, 1 to 16.
+    Crew(u32),
     /// `make SEED TXNS LINES`: make a trace.
     Make(Recipe),
     /// `sum SEED TXNS LINES`: play that trace, and tell the run in one line of numbers.
@@ -34,6 +39,7 @@ pub fn command_of(words: &[String]) -> Option<Command>
 {
     match words {
         [word] => single(word.as_str()),
+        [word, workers] => crew(word.as_str(), workers.as_bytes()),
         [word, seed, txns, lines] => maker(
             word.as_str(),
             seed.as_bytes(),
@@ -51,6 +57,19 @@ fn single(word: &str) -> Option<Command>
 {
     if word == "serial" {
         Some(Command::Serial)
+    } else {
+        None
+    }
+}
+
+/// The command of a word and one number.
+fn crew(word: &str, workers: &[u8]) -> Option<Command>
+    ensures some { IfSome result (IsCommand (word.now ∷ workers.now ∷ [])) }
+    ensures none { IfNone result (IsNoCommand (word.now ∷ workers.now ∷ [])) }
+{
+    let workers = number(workers, 1, MOST_WORKERS)?;
+    if word == "crew" {
+        Some(Command::Crew(workers as u32))
     } else {
         None
     }

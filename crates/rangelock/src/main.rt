@@ -1,7 +1,9 @@
-//! `rangelock serial` plays the trace on standard input and writes its transcript to standard output. `rangelock make` and
-//! `rangelock sum` make a trace of three numbers, and write it or the numbers of its run.
+//! `rangelock serial` plays the trace on standard input and writes its transcript to standard output, and so does
+//! `rangelock crew` by so many threads. `rangelock make` and `rangelock sum` make a trace of three numbers, and write it or the
+//! numbers of its run.
 #![tactic(auto)]
 
+use lt_crew::OpenGate;
 use lt_edge::{ReadSource, WriteSink};
 use lt_program::{run, status};
 use lt_watch::{ListWatch, Watchers};
@@ -21,11 +23,13 @@ fn main(rt: HostRuntime) -> ExitCode {
             let mut sink = WriteSink::new(io::writer(&rt));
             let status = match watch.add(list) {
                 Ok(()) => run(
+                    &rt,
                     rt.alloc(),
                     words.as_slice(),
                     &mut source,
                     &mut sink,
                     &mut watch,
+                    &OpenGate,
                 ),
                 Err(_) => status::NO_MEMORY,
             };
@@ -41,7 +45,7 @@ fn main(rt: HostRuntime) -> ExitCode {
     if status == status::USAGE {
         // Where standard error fails too, the status alone has to tell.
         let _ = eprintln!(rt;
-            "usage: rangelock serial | make SEED TXNS LINES | sum SEED TXNS LINES"
+            "usage: rangelock serial | crew N | make SEED TXNS LINES | sum SEED TXNS LINES"
         );
     }
     ExitCode::from(status)

@@ -7,33 +7,38 @@ returns-in-Ok-answer_to-clause-only g c = only_status c.deliver.result c.in-Ok-a
 
 pub returns-in-Ok-answer_to-clause-done : goal.returns-in-Ok-answer_to-clause-done
 returns-in-Ok-answer_to-clause-done g c = λ done.
-    plays _ _ _ _ c.deliver.result c.in-Ok.bytes.items (record { bytes_read = c.in-Ok.ensures.bytes; read = c.in-Ok.ensures.rest })
-    c.in-Ok-answer_to.answer _ _ (rw c.deref.ensures.value at c.in-Ok-answer_to.ensures.answer) (rw c.deref.ensures.value at c.in-Ok-answer_to.ensures.told) (λ short. c.in-Ok.ensures.end (omega arith)) c.deliver.ensures.status c.deliver.ensures.all done
+    plays _ _ _ _ _ c.deliver.result c.in-Ok.bytes.items (record { bytes_read = c.in-Ok.ensures.bytes; read = c.in-Ok.ensures.rest }) _ _
+    c.in-Ok-answer_to.answer (rw c.deref.ensures.value at c.in-Ok-answer_to.ensures.answer) (λ short. c.in-Ok.ensures.end (omega arith))
+    c.deliver.ensures.status c.deliver.ensures.all done
 
 pub returns-in-Ok-answer_to-clause-refused : goal.returns-in-Ok-answer_to-clause-refused
 returns-in-Ok-answer_to-clause-refused g c = λ done.
-    refuses _ _ _ _ c.deliver.result c.in-Ok.bytes.items (record { bytes_read = c.in-Ok.ensures.bytes; read = c.in-Ok.ensures.rest })
-    c.in-Ok-answer_to.answer (rw c.deref.ensures.value at c.in-Ok-answer_to.ensures.answer) c.deliver.ensures.status c.deliver.ensures.all done
+    refuses _ _ _ _ _ c.deliver.result c.in-Ok.bytes.items (record { bytes_read = c.in-Ok.ensures.bytes; read = c.in-Ok.ensures.rest }) _ _
+    c.in-Ok-answer_to.answer (rw c.deref.ensures.value at c.in-Ok-answer_to.ensures.answer) c.deliver.ensures.status
+    c.deliver.ensures.all done
 
 pub returns-in-Ok-answer_to-clause-part : goal.returns-in-Ok-answer_to-clause-part
 returns-in-Ok-answer_to-clause-part g c = λ done.
-    breaks _ _ _ _ c.deliver.result c.in-Ok.bytes.items (record { bytes_read = c.in-Ok.ensures.bytes; read = c.in-Ok.ensures.rest })
+    breaks _ _ _ _ _ c.deliver.result c.in-Ok.bytes.items (record { bytes_read = c.in-Ok.ensures.bytes; read = c.in-Ok.ensures.rest }) _ _
     c.in-Ok-answer_to.answer (rw c.deref.ensures.value at c.in-Ok-answer_to.ensures.answer) (c.deliver.ensures.part done)
 
 pub returns-in-Ok-answer_to-clause-complete : goal.returns-in-Ok-answer_to-clause-complete
 returns-in-Ok-answer_to-clause-complete g c = λ no_read no_write.
-    completes _ _ c.deliver.result c.in-Ok.bytes.items (record { bytes_read = c.in-Ok.ensures.bytes; read = c.in-Ok.ensures.rest })
+    completes _ _ _ c.deliver.result c.in-Ok.bytes.items (record { bytes_read = c.in-Ok.ensures.bytes; read = c.in-Ok.ensures.rest }) _ _
     c.in-Ok-answer_to.answer (rw c.deref.ensures.value at c.in-Ok-answer_to.ensures.answer) c.deliver.ensures.status
     (λ five. no_write (c.deliver.ensures.failed five))
 
 pub returns-in-Ok-answer_to-clause-untold : goal.returns-in-Ok-answer_to-clause-untold
 returns-in-Ok-answer_to-clause-untold g c =
-    untold _ _ c.deliver.result c.in-Ok.bytes.items (record { bytes_read = c.in-Ok.ensures.bytes; read = c.in-Ok.ensures.rest }) c.in-Ok-answer_to.answer _ _ (rw c.deref.ensures.value at c.in-Ok-answer_to.ensures.told) c.deliver.ensures.status
+    untold _ _ _ c.deliver.result c.in-Ok.bytes.items (record { bytes_read = c.in-Ok.ensures.bytes; read = c.in-Ok.ensures.rest }) _ _
+    c.in-Ok-answer_to.answer (rw c.deref.ensures.value at c.in-Ok-answer_to.ensures.answer) c.deliver.ensures.status
 
 pub returns-in-Ok-answer_to-clause-told_or_not : goal.returns-in-Ok-answer_to-clause-told_or_not
 returns-in-Ok-answer_to-clause-told_or_not g c = λ e.
-    told_or_not _ _ c.deliver.result c.in-Ok.bytes.items (record { bytes_read = c.in-Ok.ensures.bytes; read = c.in-Ok.ensures.rest }) c.in-Ok-answer_to.answer _ _ (rw c.deref.ensures.value at c.in-Ok-answer_to.ensures.told)
+    told_or_not _ _ _ c.deliver.result c.in-Ok.bytes.items (record { bytes_read = c.in-Ok.ensures.bytes; read = c.in-Ok.ensures.rest }) _ _
+    c.in-Ok-answer_to.answer (rw c.deref.ensures.value at c.in-Ok-answer_to.ensures.answer)
 
 pub returns-clause-told_or_not : goal.returns-clause-told_or_not
 returns-clause-told_or_not g c = λ e.
-    short_told _ _ 6 c.in-Ok.bytes.items (record { bytes_read = c.in-Ok.ensures.bytes; read = c.in-Ok.ensures.rest }) _ _ (rw c.deref.ensures.value at c.in-Err.ensures.short)
+    short_told _ _ _ 6 c.in-Ok.bytes.items (record { bytes_read = c.in-Ok.ensures.bytes; read = c.in-Ok.ensures.rest }) _ _
+    (rw c.deref.ensures.value at c.in-Err.ensures.short)

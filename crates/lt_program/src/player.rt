@@ -1,0 +1,61 @@
+//! Who plays a trace, and the text of its run.
+ghost use Rattle.std.specs.Prelude.{◌≡◌, ◌⊎◌, ℕ, List, IfOk, OnErr};
+ghost use Rattle.lt_program.specs.Runs.{MayPlay, HasPlayed, transcript_text};
+
+use lt_crew::{Gate, run_crew};
+use lt_history::print;
+use lt_manager::Manager;
+use lt_runner::{Transcript, run_serial};
+use lt_trace::Trace;
+use lt_watch::Tells;
+use std::alloc::{AllocError, Global};
+use std::thread::Threads;
+
+/// Who plays a trace.
+#[derive(Clone, Copy, Debug, PartialEq, Eq, Hash)]
+pub(crate) enum Player {
+    /// The plain scheduler.
+    Serial,
+    /// A crew of so many workers.
+    Crew(u32),
+}
+
+/// A run of the trace by this player. Each watch is told the joins of the run.
+fn run_of<R: Threads + Sync, T: Tells, G: Gate>(
+    rt: &R,
+    alloc: Global,
+    player: Player,
+    trace: &Trace,
+    watch: &mut T,
+    gate: &G,
+) -> Result<Transcript, AllocError>
+    requires { MayPlay player }
+    ensures run { IfOk result (λ transcript. HasPlayed player trace.now (transcript_text transcript)
+        (T.logs watch.old) (T.logs watch.new)) }
+    ensures untold { OnErr result (T.logs watch.new ≡ T.logs watch.old) }
+{
+    match player {
+        Player::Serial => run_serial::<Manager, T>(alloc, trace, 0, watch),
+        Player::Crew(workers) => {
+            run_crew::<R, Manager, T, G>(rt, alloc, trace, 0, workers, watch, gate)
+        }
+    }
+}
+
+/// The text of a run of the trace by this player. Each watch is told the joins of the run.
+pub(crate) fn played_text<R: Threads + Sync, T: Tells, G: Gate>(
+    rt: &R,
+    alloc: Global,
+    player: Player,
+    trace: &Trace,
+    watch: &mut T,
+    gate: &G,
+) -> Result<Vec<u8>, AllocError>
+    requires { MayPlay player }
+    ensures run { IfOk result (λ text. HasPlayed player trace.now text.items (T.logs watch.old) (T.logs watch.new)) }
+    ensures short { OnErr result ((T.logs watch.new ≡ T.logs watch.old)
+        ⊎ ((text : List ℕ) × HasPlayed player trace.now text (T.logs watch.old) (T.logs watch.new))) }
+{
+    let run = run_of(rt, alloc, player, trace, watch, gate)?;
+    print(alloc, &run.receipts, &run.outcomes, run.places, run.used)
+}
