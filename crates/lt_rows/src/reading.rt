@@ -1,9 +1,13 @@
 //! What the words of a row say.
 ghost use Rattle.std.specs.Prelude.{◌≡◌, ◌+◌, ◌≤◌, take, drop};
 ghost use Rattle.lt_rows.specs.Nodes.{key_of, node_of, upwards};
+ghost use Rattle.lt_rows.specs.Sides.{IsSideOf};
 
 use crate::image::RowImage;
-use lt_ranges::{Key, KeyRange};
+use crate::packed_range::PackedRange;
+use crate::packing::read_key;
+use crate::range_side::RangeSide;
+use lt_ranges::{KEY_WORDS, Key, KeyRange};
 
 /// The range from one key to the greater of the two.
 #[tactic(auto, using(crate::proofs::NodeRanges::below_greater))]
@@ -26,16 +30,11 @@ impl RowImage {
     }
 
     /// The key that eight words pack, or the least where they pack none.
-    #[tactic(auto, unfolding(crate::specs::Nodes::key_of))]
     fn key(&self, at: usize) -> Key
         requires { at + 8 ≤ 21 }
         ensures { result ≡ key_of (take 8 (drop at self.now.words)) }
     {
-        let mut words = [0; 8];
-        for i in 0..8 {
-            words[i] = self.words[at + i];
-        }
-        Key::unpack(words).unwrap_or(Key::Below)
+        read_key(&self.words[at..at + KEY_WORDS])
     }
 
     /// The range that the row holds: from its left key to the greater of the two.
@@ -44,6 +43,21 @@ impl RowImage {
         ensures { result ≡ (node_of self.now.words).range }
     {
         upwards(&self.key(1), &self.key(9))
+    }
+
+    /// On which side of the asked range the row's range lies. Where its left key lies before the asked range, the greater of its two
+    /// keys does only if the right one does too; else the right key is not looked at.
+    pub fn compare(&self, asked: &PackedRange) -> RangeSide
+        ensures { IsSideOf (node_of self.now.words).range asked.now.range result }
+    {
+        match asked.side(&self.words[1..9]) {
+            RangeSide::Before => match asked.side(&self.words[9..17]) {
+                RangeSide::Before => RangeSide::Before,
+                RangeSide::Meets | RangeSide::Behind => RangeSide::Meets,
+            },
+            RangeSide::Meets => RangeSide::Meets,
+            RangeSide::Behind => RangeSide::Behind,
+        }
     }
 
     /// The left link: 0 for none, and else a row's number plus 1.

@@ -1,11 +1,10 @@
 -- One step of a search on its way down.
-use Rattle.std.proofs.Common.{◌≡◌, ◌≢◌, inl, inr, ◌⊎◌, ℕ, zero, suc, ◌+◌, ◌-◌, ◌<◌, Bool, true, false, List, [], ◌∷◌, length, set, get_or, refl, sym, ap, ◌∙◌, subst, arith, true≢false}
-use Rattle.std.specs.Prelude.{Option, Some, None, not, ◌&&◌}
-use Rattle.lt_ranges.specs.Interval.{Interval, before, overlap}
-use Rattle.lt_ranges.specs.Key.{key_le}
+use Rattle.std.proofs.Common.{◌≡◌, ◌≢◌, inl, inr, ◌⊎◌, ℕ, zero, suc, ◌+◌, ◌-◌, ◌<◌, List, [], ◌∷◌, length, set, get_or, refl, sym, ap, ◌∙◌, subst, arith}
+use Rattle.std.specs.Prelude.{Option, Some, None}
+use Rattle.lt_ranges.specs.Interval.{Interval}
 use Rattle.lt_seq.specs.declared.event.Event.{Event}
 use Rattle.lt_forest.specs.Counts.{times}
-use Rattle.lt_forest.specs.Trees.{Node, Nodes}
+use Rattle.lt_forest.specs.Trees.{Nodes}
 use Rattle.lt_forest.specs.Views.{IsIn}
 use Rattle.lt_forest.specs.Links.{Slot, left_of, right_of, row_with, link_in, IsLinkOf, Leads, by_link, and_on}
 use Rattle.lt_forest.proofs.NoWayBack.{placed_links}
@@ -137,22 +136,3 @@ module _ (v : View) (tree : ℕ) (asked : Interval) (here : RowImage) (link step
   -- the gap in which the child stands
   pub child_gap : IsGapFor tree asked (gap_for v r)
   child_gap = spot_gap v log st tree lt asked here link r (link_r link refl) here_held here_image d.spot
-
--- where the search goes on
-
-not_false : (a : Bool) → a ≡ false → not a ≡ true
-not_false true e = sym e
-not_false false e = refl
-
-second_false : (a b : Bool) → a ≡ true → (a && b) ≡ false → not b ≡ true
-second_false true b e n = not_false b n
-second_false false b e n = absurd (true≢false (sym e))
-
-pub goes_right : (asked range : Interval) (n : Node) (link : ℕ) → range ≡ n.range → overlap range asked ≡ false
-    → key_le range.left asked.right ≡ true → link ≡ n.right → GoesTo asked n link
-goes_right asked range n link is apart le same =
-    inr (ap (λ (a : Interval). before a asked) (sym is) ∙ second_false (key_le range.left asked.right) (key_le asked.left range.right) le apart, same)
-
-pub goes_left : (asked range : Interval) (n : Node) (link : ℕ) → range ≡ n.range → key_le range.left asked.right ≡ false → link ≡ n.left → GoesTo asked n link
-goes_left asked range n link is gt same =
-    inl (ap (λ (a : Interval). before asked a) (sym is) ∙ not_false (key_le range.left asked.right) gt, same)

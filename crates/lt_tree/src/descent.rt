@@ -1,5 +1,5 @@
 //! The way down, hand over hand.
-ghost use Rattle.std.specs.Prelude.{◌≡◌, ◌≢◌, ◌+◌, ◌<◌, ℕ, List, IfOk, IfErr, [], false};
+ghost use Rattle.std.specs.Prelude.{◌≡◌, ◌≢◌, ◌+◌, ◌<◌, ℕ, List, MatchOption, IfOk, IfErr, [], true};
 ghost use Rattle.lt_ranges.specs.Interval.{overlap};
 ghost use Rattle.lt_seq.specs.Yard.{IsPlan};
 ghost use Rattle.lt_forest.specs.Forest.{IsTree};
@@ -16,7 +16,7 @@ use crate::put::put_all;
 use crate::seize::seize;
 use crate::turning::turn_below;
 use lt_ranges::KeyRange;
-use lt_rows::{RowImage, RowPass, RowTable, Take};
+use lt_rows::{PackedRange, RangeSide, RowImage, RowPass, RowTable, Take};
 use lt_seq::{Fault, YardPlan};
 use std::alloc::Global;
 
@@ -34,16 +34,15 @@ fn budget(plan: &YardPlan) -> usize
     plan.trees as usize + 1 + plan.limit as usize + plan.passes as usize
 }
 
-/// The link on which a search goes on from a row that doesn't overlap the asked range.
-fn next_link(here: &RowImage, range: &KeyRange, asked: &KeyRange) -> u64
-    requires range { range.now ≡ (node_of here.now.words).range }
-    requires apart { overlap range.now asked.now ≡ false }
-    ensures goes { GoesTo asked.now (node_of here.now.words) result }
+/// The link on which a search goes on from a row, or `None` where the row overlaps the asked range.
+fn next_link(here: &RowImage, asked: &PackedRange) -> Option<u64>
+    ensures { MatchOption result (overlap (node_of here.now.words).range asked.now.range ≡ true)
+        (λ link. GoesTo asked.now.range (node_of here.now.words) link) }
 {
-    if range.left().is_at_most(&asked.right()) {
-        here.right()
-    } else {
-        here.left()
+    match here.compare(asked) {
+        RangeSide::Before => Some(here.right()),
+        RangeSide::Meets => None,
+        RangeSide::Behind => Some(here.left()),
     }
 }
 
@@ -92,6 +91,7 @@ fn go_down(
     pass: &mut RowPass,
     anchor: &RowImage,
     asked: &KeyRange,
+    packed: &PackedRange,
     spins: u32,
     above: &mut Vec<u32>,
 ) -> Result<Stop, Fault>
@@ -100,6 +100,7 @@ fn go_down(
     requires tree { anchor.now.row < table.now.plan.trees }
     requires prepared { IsPrepared (knows pass.old) anchor.now.row anchor.now × Teaches (knows pass.old) }
     requires is_tree { IsTree (mode_of anchor.now.words) }
+    requires packed { packed.now.range ≡ asked.now }
     requires none { above.old.items ≡ [] }
     ensures of { IsPassOf table.now pass.new × IsSamePass pass.old pass.new }
     ensures only { SeesOn (knows pass.old) (knows pass.new) }
@@ -121,11 +122,10 @@ fn go_down(
                 return Err(fault);
             }
         };
-        let range = child.range();
-        if range.overlaps(asked) {
+        let Some(next) = next_link(&child, packed) else {
             let child = Some(child);
             return Ok(Stop { here: stays, child });
-        }
+        };
         if steps > 0 {
             steps -= 1;
             table.put(pass, stays.row);
@@ -134,7 +134,7 @@ fn go_down(
             table.put(pass, child.row);
             return Err(Fault::OutOfMemory);
         }
-        link = next_link(&child, &range, asked);
+        link = next;
         here = child;
     }
     Ok(Stop { here, child: None })
@@ -166,8 +166,9 @@ pub fn descend(
     ensures none { IfErr result (λ _. HoldsNone (knows pass.new)) }
     ensures refused { IfErr result (λ fault. IsRefused (knows pass.old) (knows pass.new) fault) }
 {
+    let packed = PackedRange::of(asked);
     let mut above = Vec::new(alloc);
-    match go_down(table, pass, anchor, asked, spins, &mut above) {
+    match go_down(table, pass, anchor, asked, &packed, spins, &mut above) {
         Ok(stop) => {
             put_all(table, pass, above);
             Ok(stop)

@@ -5,8 +5,9 @@ ghost use Rattle.lt_rows.specs.Handles.{knows, IsPassOf, IsSamePass};
 ghost use Rattle.lt_tree.specs.States.{Seizes};
 
 use lt_rows::{RowPass, RowTable, Take};
+use std::hint;
 
-/// Tries to take a row, at most 1 + spins times.
+/// Tries to take a row, at most 1 + spins times, and lets the processor rest between two tries.
 pub fn seize(table: &RowTable, pass: &mut RowPass, row: u32, spins: u32) -> Take
     requires of { IsPassOf table.now pass.old }
     requires right { 0 < pass.old.rights }
@@ -18,6 +19,7 @@ pub fn seize(table: &RowTable, pass: &mut RowPass, row: u32, spins: u32) -> Take
         if let Take::Taken = table.take(pass, row) {
             return Take::Taken;
         }
+        hint::spin_loop();
     }
     table.take(pass, row)
 }

@@ -91,6 +91,23 @@ fn a_tree_is_prepared_by_one_pass_alone(rt: HostRuntime) -> Result<(), Fail> {
 }
 
 #[test]
+fn a_prepared_tree_is_busy_at_the_only_try(rt: HostRuntime) -> Result<(), Fail> {
+    let Some((table, one, two)) = both(rt.alloc(), &plan())? else {
+        assert!(rt; false, "no passes");
+        return Ok(());
+    };
+    let Ok(_first) = try_prepare(&table, one, 0, 0) else {
+        assert!(rt; false, "the anchor is held");
+        return Ok(());
+    };
+    match try_prepare(&table, two, 0, 0) {
+        Ok(_) => assert!(rt; false, "the anchor is free"),
+        Err((_, fault)) => assert!(rt; matches!(fault, Fault::Busy { row: 0, holder: 0 })),
+    }
+    Ok(())
+}
+
+#[test]
 fn a_search_of_an_empty_tree_holds_the_anchor(rt: HostRuntime) -> Result<(), Fail> {
     let Some((table, one, two)) = both(rt.alloc(), &plan())? else {
         assert!(rt; false, "no passes");
