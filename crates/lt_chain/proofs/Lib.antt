@@ -5,6 +5,7 @@ mod ImageLaws
 mod AddLaws
 mod WalkLaws
 mod PairLaws
+mod FoldOrder
 pub mod ReadLaws
 pub mod DropLaws
 mod HandingLaws

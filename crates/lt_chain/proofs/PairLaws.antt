@@ -1,27 +1,15 @@
--- The pairs of a chain, granted from its last row to its first.
-use Rattle.std.proofs.Common.{◌≡◌, ℕ, zero, suc, ◌+◌, ◌-◌, ◌<◌, ◌≤◌, List, [], ◌∷◌, ◌++◌, length, take, get_or, sym, ap, ◌∙◌, subst, arith}
-use Rattle.std.proofs.lemmas.List.{take_all, take_more}
+-- The rows of a chain one by one, and their ranges.
+use Rattle.std.proofs.Common.{◌≡◌, ℕ, zero, suc, ◌+◌, ◌-◌, ◌<◌, ◌≤◌, List, [], ◌∷◌, ◌++◌, length, map, take, get_or, sym, ap, ◌∙◌, arith}
+use Rattle.std.proofs.lemmas.List.{take_all, take_more, map-append}
 use Rattle.lt_ranges.specs.Interval.{Interval}
-use Rattle.lt_seq.specs.declared.event.Pair.{Pair}
-use Rattle.lt_seq.specs.Pairs.{granted}
 use Rattle.lt_forest.specs.Counts.{times}
-use Rattle.lt_forest.specs.Forest.{folded}
 use Rattle.lt_forest.proofs.SameRows.{one_here}
 use Rattle.lt_rows.specs.declared.view.View.{View}
-use Rattle.lt_rows.specs.LastWords.{AllBelow}
-use Rattle.lt_rows.specs.Walks.{InGrants}
 use Rattle.lt_rows.specs.Nodes.{node_of}
 use Rattle.lt_rows.specs.Views.{row_at, words_of, IsHeld}
 use Rattle.lt_rows.specs.Lawful.{shown}
-use Rattle.lt_rows.proofs.Loops.{held_inside}
-use Rattle.lt_rows.proofs.NodeRanges.{node_interval}
-use Rattle.lt_rows.proofs.WalkLaws.{no_grants, grant_step, grants_done}
 use Rattle.lt_tree.specs.Puttings.{Backs}
 use Rattle.lt_chain.proofs.HoldingLaws.{backs_held, backs_has}
-
-all_below : (n : ℕ) (xs : List ℕ) → ((q : ℕ) → 0 < times q xs → q < n) → AllBelow n xs
-all_below n [] h = tt
-all_below n (x ∷ xs) h = (h x (let o = one_here x in omega arith), all_below n xs (λ q some. h q (omega arith)))
 
 pub at_stands : (xs : List ℕ) (i : ℕ) → i < length xs → 0 < times (get_or xs i 0) xs
 at_stands [] i lt = absurd (omega arith)
@@ -31,25 +19,25 @@ at_stands (x ∷ xs) (suc i) lt = let s = at_stands xs i (omega arith) in omega 
 pub last_of : (xs : List ℕ) (n : ℕ) → 0 < n → n ≤ length xs → take n xs ≡ take (n - 1) xs ++ get_or xs (n - 1) 0 ∷ []
 last_of xs n ne le = ap (λ (m : ℕ). take m xs) (let e : n ≡ (n - 1) + 1 = omega arith in e) ∙ take_more xs (n - 1) 0 (omega arith)
 
-module _ (v : View) (tree txn : ℕ) (rows : List ℕ) (b : Backs v (tree ∷ rows)) where
-  pub grants_begin : InGrants (shown v []) (length v.held) txn rows (take (length rows) rows) []
-  grants_begin = subst (λ (l : List ℕ). InGrants (shown v []) (length v.held) txn rows l []) (sym (take_all (length rows) rows (omega arith)))
-      (no_grants (shown v []) (length v.held) txn rows
-      (all_below (length v.held) rows (λ q some. (let h = backs_held v (tree ∷ rows) b q (omega arith) in held_inside v q h.0 h.1))))
+-- the range of a row
+abbrev pub range_in : View → ℕ → Interval
+range_in v q = (shown v [] q).range
 
-  pub row_held : (n : ℕ) → 0 < n → n ≤ length rows → IsHeld v (get_or rows (n - 1) 0)
-  row_held n ne le = let s = at_stands rows (n - 1) (omega arith) in backs_held v (tree ∷ rows) b (get_or rows (n - 1) 0) (omega arith)
+module _ (v : View) (tree : ℕ) (rows : List ℕ) (b : Backs v (tree ∷ rows)) where
+  pub row_held : (n : ℕ) → n < length rows → IsHeld v (get_or rows n 0)
+  row_held n lt = let s = at_stands rows n lt in backs_held v (tree ∷ rows) b (get_or rows n 0) (omega arith)
 
-  pub grants_on : (n : ℕ) (ws : List ℕ) (range : Interval) (pairs more : List Pair) → 0 < n → n ≤ length rows → ws ≡ words_of (row_at v (get_or rows (n - 1) 0))
-      → range ≡ (node_of ws).range → more ≡ granted txn range pairs
-      → InGrants (shown v []) (length v.held) txn rows (take n rows) pairs → InGrants (shown v []) (length v.held) txn rows (take (n - 1) rows) more
-  grants_on n ws range pairs more ne le loaded range_is more_is walk =
-      let r : ℕ = get_or rows (n - 1) 0 in
-      let s = at_stands rows (n - 1) (omega arith) in
-      let h = backs_has v (tree ∷ rows) b (get_or rows (n - 1) 0) (omega arith) ws loaded in
-      let is : (shown v [] (get_or rows (n - 1) 0)).range ≡ range = ap (λ (l : List ℕ). (node_of l).range) h.2 ∙ sym range_is in
-      subst (InGrants (shown v []) (length v.held) txn rows (take (n - 1) rows)) (ap (λ (i : Interval). granted txn i pairs) is ∙ sym more_is)
-      (grant_step (take (n - 1) rows) r walk (last_of rows n ne le) (λ q. node_interval _)).next
+  -- one row more is loaded
+  pub ranges_on : (n : ℕ) (ws : List ℕ) (range : Interval) (ranges more : List Interval) → n < length rows
+      → ws ≡ words_of (row_at v (get_or rows n 0)) → range ≡ (node_of ws).range → more ≡ ranges ++ range ∷ []
+      → ranges ≡ map (range_in v) (take n rows) → more ≡ map (range_in v) (take (n + 1) rows)
+  ranges_on n ws range ranges more lt loaded range_is more_is so_far =
+      let s = at_stands rows n lt in
+      let h = backs_has v (tree ∷ rows) b (get_or rows n 0) (omega arith) ws loaded in
+      let is : range ≡ range_in v (get_or rows n 0) = range_is ∙ ap (λ (l : List ℕ). (node_of l).range) (sym h.2) in
+      more_is ∙ ((λ i. so_far i ++ is i ∷ [])
+      ∙ (sym (map-append (range_in v) (take n rows) (get_or rows n 0 ∷ [])) ∙ ap (map (range_in v)) (sym (take_more rows n 0 lt))))
 
-  pub grants_end : (n : ℕ) (pairs : List Pair) → n ≤ 0 → InGrants (shown v []) (length v.held) txn rows (take n rows) pairs → pairs ≡ folded txn (shown v []) rows
-  grants_end n pairs z walk = grants_done walk (ap (λ (m : ℕ). take m rows) (let e : n ≡ 0 = omega arith in e))
+  pub ranges_end : (n : ℕ) (ranges : List Interval) → length rows ≤ n → ranges ≡ map (range_in v) (take n rows)
+      → ranges ≡ map (range_in v) rows
+  ranges_end n ranges all so_far = so_far ∙ ap (map (range_in v)) (take_all n rows all)

@@ -4,8 +4,10 @@ use Rattle.lt_ranges.specs.Interval.{Interval, IsInterval}
 use Rattle.lt_seq.specs.declared.event.Event.{Event}
 use Rattle.lt_seq.specs.declared.event.Deed.TheVariants.{Free}
 use Rattle.lt_seq.specs.declared.event.Held.{Held}
+use Rattle.lt_seq.specs.declared.event.Pair.{Pair}
 use Rattle.lt_seq.specs.declared.event.Mode.TheVariants.{Buffer}
 use Rattle.lt_seq.specs.History.{IsFront, after}
+use Rattle.lt_seq.specs.Pairs.{granted}
 use Rattle.lt_seq.specs.SeqPass.{plain}
 use Rattle.lt_seq.specs.Table.{held_in, tree_at, is_whole}
 use Rattle.lt_forest.specs.Forest.{IsChain, IsRun, folded}
@@ -41,6 +43,11 @@ pub record FreesAll (pass tree : ℕ) (v : View) (rows : List ℕ) (e : Event) :
   pub question : IsInterval range
   pub whole : is_whole range ≡ true
   pub deed : e.deed ≡ Free tree range first (length (folded (shown v [] tree).owner (shown v []) rows))
+
+-- what asks for these ranges grant to the transaction, the last of them first
+abbrev pub all_granted : ℕ → List Interval → List Pair
+all_granted txn [] = []
+all_granted txn (r ∷ rs) = granted txn r (all_granted txn rs)
 
 -- These are the pairs that the rows grant to the buffer's transaction, and the tree's pairs after some history, of which the
 -- pass has seen a front.

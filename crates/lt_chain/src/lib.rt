@@ -16,3 +16,6 @@ pub mod worked;
 pub use add::{append, begin};
 pub use drop::drop_all;
 pub use read::{ChainRead, put_chain, to_pairs};
+
+#[cfg(test)]
+mod tests;

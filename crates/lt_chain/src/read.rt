@@ -35,6 +35,7 @@ pub fn put_chain(table: &RowTable, pass: &mut RowPass, tree: u32, rows: Vec<u32>
 }
 
 /// Takes all rows of a buffer's chain, and reads its pairs. The pass holds the anchor and these rows afterwards.
+/// With n rows it takes n log n compares, and memory for the rows, their ranges and the pairs.
 ///
 /// # Errors
 /// `Busy` only where a row was met that another pass holds, which never comes to a pass with all the rights; or want of memory.
