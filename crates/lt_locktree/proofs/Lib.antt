@@ -54,3 +54,4 @@ pub mod MadeDeeds
 pub mod ReachedDeeds
 pub mod AnchorsShown
 pub mod CallsServed
+pub mod NewPasses

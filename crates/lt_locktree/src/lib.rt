@@ -60,6 +60,14 @@ pub use standing::stand_pairs;
 pub use tree_pass::TreePass;
 
 #[cfg(test)]
+mod mode_tests;
+#[cfg(test)]
 mod row_tests;
+#[cfg(test)]
+mod search_tests;
+#[cfg(test)]
+mod stopped_tests;
+#[cfg(test)]
+mod test_calls;
 #[cfg(test)]
 mod tests;

@@ -55,7 +55,7 @@ fn point(n: u32) -> KeyRange {
 }
 
 /// Reads a row with a pass that holds none.
-fn read_row(table: &RowTable, pass: &mut RowPass, row: u32) -> Option<RowImage>
+pub(crate) fn read_row(table: &RowTable, pass: &mut RowPass, row: u32) -> Option<RowImage>
     requires of { IsPassOf table.now pass.old }
     requires right { 0 < pass.old.rights }
     requires none { HoldsNone (knows pass.old) }
@@ -146,29 +146,61 @@ fn shape_of(
     shape(alloc, table.table(), &mut pass)
 }
 
-/// Asks for the points of some numbers, one after another: whether each was granted.
-fn ask_points(table: &Locktree, pass: &mut TreePass, count: u32) -> bool
+/// An order in which points are asked for.
+#[derive(Clone, Copy, Debug)]
+enum Order {
+    Ascending,
+    Descending,
+    /// The least that is left, and the greatest, in turn.
+    Zigzag,
+}
+
+/// How many points are asked for.
+const POINTS: u32 = 1000;
+
+/// The number of the point that is asked for in turn `n`, below the number of points.
+fn nth(order: Order, n: u32) -> u32
+    requires turn { n < 1000 }
+{
+    match order {
+        Order::Ascending => n,
+        Order::Descending => POINTS - 1 - n,
+        Order::Zigzag if n % 2 == 0 => n / 2,
+        Order::Zigzag => POINTS - 1 - n / 2,
+    }
+}
+
+/// Asks for all points in this order: whether each was granted.
+fn ask_points(table: &Locktree, pass: &mut TreePass, order: Order) -> bool
     requires of { IsOfTable table.now pass.old × (0 < table.now.rows.plan.trees) }
     ensures of { StaysOf table.now pass.old pass.new }
 {
     let mut granted = true;
-    for n in 0..count {
-        granted = granted && matches!(asked(table, pass, 1, &point(n)), Some(Reply::Granted));
+    for n in 0..POINTS {
+        let range = point(nth(order, n));
+        granted = granted && matches!(asked(table, pass, 1, &range), Some(Reply::Granted));
     }
     granted
 }
 
+/// The longest path that a simulation of the rule of rotations leaves (`checks/rotations.py`) is the one that the rows have.
 #[test]
 fn asks_in_order_leave_no_long_path(rt: HostRuntime) -> Result<(), Fail> {
-    let Some((table, pass)) = one_pass(rt.alloc(), &plan(2000, 0))? else {
-        assert!(rt; false, "no pass");
-        return Ok(());
-    };
-    let mut pass = pass;
-    assert!(rt; ask_points(&table, &mut pass, 1000));
-    match shape_of(rt.alloc(), &table, pass)? {
-        Some((rows, longest)) => assert!(rt; rows == 1000 && longest <= 500),
-        None => assert!(rt; false, "the rows are no tree"),
+    for (order, path) in [
+        (Order::Ascending, 11),
+        (Order::Descending, 11),
+        (Order::Zigzag, 16),
+    ] {
+        let Some((table, pass)) = one_pass(rt.alloc(), &plan(2000, 0))? else {
+            assert!(rt; false, "no pass");
+            return Ok(());
+        };
+        let mut pass = pass;
+        assert!(rt; ask_points(&table, &mut pass, order));
+        match shape_of(rt.alloc(), &table, pass)? {
+            Some((rows, longest)) => assert_eq!(rt; (rows, longest), (1000, path)),
+            None => assert!(rt; false, "the rows are no tree"),
+        }
     }
     Ok(())
 }
@@ -213,7 +245,9 @@ fn a_join_of_two_neighbours_gives_a_row_back(rt: HostRuntime) -> Result<(), Fail
         return Ok(());
     };
     let mut pass = pass;
-    assert!(rt; ask_points(&table, &mut pass, 2));
+    for n in 0..2 {
+        assert!(rt; matches!(asked(&table, &mut pass, 1, &point(n)), Some(Reply::Granted)));
+    }
     assert!(rt; table.look(&mut pass).used == 2);
     if may_ask(&table, &mut pass) {
         match table.escalate(&mut pass, 1, 0) {

@@ -22,4 +22,6 @@ pub use manager_note::ManagerNote;
 pub use manager_pass::ManagerPass;
 
 #[cfg(test)]
+mod history_tests;
+#[cfg(test)]
 mod tests;

@@ -19,6 +19,8 @@ use std::thread::join;
 enum Call {
     /// An ask for one key.
     Ask(u64, u8),
+    /// An ask for the keys from one to another.
+    AskSpan(u64, u8, u8),
     /// The first free of a release, of all keys.
     Free(u64),
     /// Who is in the way of the transaction that is named behind the one that asks.
@@ -84,8 +86,15 @@ fn key(byte: u8) -> Key {
     }
 }
 
-fn point(byte: u8) -> KeyRange {
+pub(crate) fn point(byte: u8) -> KeyRange {
     match KeyRange::new(key(byte), key(byte)) {
+        Ok(range) => range,
+        Err(_) => KeyRange::whole(),
+    }
+}
+
+fn span(left: u8, right: u8) -> KeyRange {
+    match KeyRange::new(key(left), key(right)) {
         Ok(range) => range,
         Err(_) => KeyRange::whole(),
     }
@@ -102,6 +111,9 @@ fn make<Y: Yard>(yard: &Y, pass: &mut Y::Pass, call: &Call) -> Result<Receipt, F
 {
     match *call {
         Call::Ask(txn, byte) => yard.ask(pass, txn.max(1), 0, &point(byte), false),
+        Call::AskSpan(txn, left, right) => {
+            yard.ask(pass, txn.max(1), 0, &span(left, right), false)
+        }
         Call::Free(txn) => yard.free(pass, txn.max(1), 0, &KeyRange::whole(), true),
         Call::Who(txn, named, byte) => yard.who(pass, txn.max(1), named.max(1), 0, &point(byte)),
         Call::Escalate(txn) => yard.escalate(pass, txn.max(1), 0),
@@ -264,6 +276,76 @@ fn an_ask_is_out_of_locks_behind_its_joins(rt: HostRuntime) -> Result<(), Fail> 
     Ok(())
 }
 
+/// The join that the second ask made stays, and so does its note.
+#[test]
+fn an_ask_that_is_out_of_locks_leaves_the_note_of_its_join(rt: HostRuntime) -> Result<(), Fail> {
+    let calls = [Call::Ask(1, b'a'), Call::Ask(2, b'c')];
+    let played = play_both(&rt, rt.alloc(), &plan(1, 0, 1), &calls)?;
+    assert_eq!(rt;
+        played.answers.as_slice(),
+        [Said(Kind::Granted, 0, 0), Said(Kind::OutOfLocks, 2, 1)].as_slice()
+    );
+    assert_eq!(rt;
+        played.events.as_slice(),
+        [Said(Kind::Granted, 0, 0), Said(Kind::Joined, 1, 1)].as_slice()
+    );
+    assert_eq!(rt; played.notes, 1);
+    Ok(())
+}
+
+/// A plan of one tree, eight rows and one pass, whose first event has this place.
+fn plan_from(first: u64) -> YardPlan
+    requires { first ≤ 549755813888 }
+    ensures plan { IsPlan result }
+    ensures passes { result.passes ≡ 1 }
+{
+    YardPlan {
+        trees: 1,
+        limit: 8,
+        buffer: 0,
+        passes: 1,
+        first,
+    }
+}
+
+#[test]
+fn a_table_without_a_place_answers_that_its_history_is_full(rt: HostRuntime) -> Result<(), Fail> {
+    let end = 549_755_813_888;
+    let calls = [
+        Call::Ask(1, b'a'),
+        Call::Free(1),
+        Call::Who(1, 1, b'a'),
+        Call::Escalate(1),
+    ];
+    let played = play_both(&rt, rt.alloc(), &plan_from(end), &calls)?;
+    assert_eq!(rt;
+        played.answers.as_slice(),
+        [Said(Kind::Full, end, 0); 4].as_slice()
+    );
+    assert_eq!(rt;
+        played.look,
+        Look {
+            place: end,
+            used: 0
+        }
+    );
+    assert_eq!(rt; (played.notes, played.closed.places), (0, 0));
+    Ok(())
+}
+
+#[test]
+fn the_last_place_is_given_away_once(rt: HostRuntime) -> Result<(), Fail> {
+    let last = 549_755_813_887;
+    let calls = [Call::AskSpan(1, b'a', b'c'), Call::Free(1)];
+    let played = play_both(&rt, rt.alloc(), &plan_from(last), &calls)?;
+    assert_eq!(rt;
+        played.answers.as_slice(),
+        [Said(Kind::Granted, last, 0), Said(Kind::Full, last + 1, 0)].as_slice()
+    );
+    assert_eq!(rt; (played.closed.places, played.closed.used), (1, 1));
+    Ok(())
+}
+
 #[test]
 fn a_closed_table_tells_what_is_held(rt: HostRuntime) -> Result<(), Fail> {
     let played = play_both(&rt, rt.alloc(), &plan(8, 0, 1), &[Call::Ask(1, b'a')])?;
@@ -282,19 +364,73 @@ fn a_closed_table_tells_what_is_held(rt: HostRuntime) -> Result<(), Fail> {
 }
 
 /// A table of two passes, of which each has a right.
-fn both(alloc: Global) -> Result<(Manager, ManagerPass, ManagerPass), AllocError>
+pub(crate) fn both(
+    alloc: Global,
+    plan: &YardPlan,
+) -> Result<(Manager, ManagerPass, ManagerPass), AllocError>
+    requires plan { IsPlan plan.now × (plan.now.passes ≡ 2) }
     ensures of { IfOk result (λ r. IsPassOfTable r.0.tree r.1 × IsPassOfTable r.0.tree r.2) }
-    ensures plan { IfOk result (λ r. (r.0.tree.rows.plan.trees ≡ 1) × (r.0.tree.rows.plan.passes ≡ 2)) }
+    ensures plan { IfOk result (λ r. r.0.tree.rows.plan ≡ plan.now) }
     ensures numbers { IfOk result (λ r. ((view_of r.1).number ≡ 0) × ((view_of r.2).number ≡ 1)) }
     ensures rights { IfOk result (λ r. ((view_of r.1).rights ≡ 1) × ((view_of r.2).rights ≡ 1)) }
 {
-    let (yard, mut passes) = Manager::build(alloc, &plan(1000, 0, 2))?;
+    let (yard, mut passes) = Manager::build(alloc, plan)?;
     let (Some(mut two), Some(mut one)) = (passes.pop(), passes.pop()) else {
         unreachable!();
     };
     let note = yard.share(&mut one, 1);
     yard.learn(&mut two, note);
     Ok((yard, one, two))
+}
+
+/// Ends a table of two passes, with the rights of both.
+pub(crate) fn close_both(
+    alloc: Global,
+    yard: Manager,
+    one: ManagerPass,
+    two: ManagerPass,
+) -> Result<Closed, AllocError>
+    requires of { IsPassOfTable yard.tree one × IsPassOfTable yard.tree two }
+    requires plan { yard.tree.rows.plan.passes ≡ 2 }
+    requires numbers { ((view_of one).number ≡ 0) × ((view_of two).number ≡ 1) }
+    requires rights { ((view_of one).rights ≡ 1) × ((view_of two).rights ≡ 1) }
+{
+    let (mut one, mut two) = (one, two);
+    let right = two.rights();
+    let note = yard.share(&mut two, right);
+    yard.learn(&mut one, note);
+    let mut passes = Vec::new(alloc);
+    passes.push(one)?;
+    passes.push(two)?;
+    yard.close(alloc, passes)
+}
+
+#[test]
+fn a_closed_table_has_a_list_for_each_pass(rt: HostRuntime) -> Result<(), Fail> {
+    let (yard, mut one, two) = both(rt.alloc(), &plan(64, 0, 2))?;
+    assert_eq!(rt;
+        answer_of(yard.ask(&mut one, 1, 0, &point(b'a'), false)),
+        Said(Kind::Granted, 0, 0)
+    );
+    let closed = close_both(rt.alloc(), yard, one, two)?;
+    match closed.lists.as_slice() {
+        [first, second] => {
+            assert!(rt; first.len() == 1 && second.is_empty());
+            assert_eq!(rt; event_of(&first[0]), Said(Kind::Granted, 0, 0));
+        }
+        _ => assert!(rt; false, "there are not two lists"),
+    }
+    assert_eq!(rt; (closed.places, closed.used), (1, 1));
+    assert_eq!(rt;
+        closed.left.as_slice(),
+        [Held {
+            tree: 0,
+            owner: 1,
+            range: point(b'a')
+        }]
+        .as_slice()
+    );
+    Ok(())
 }
 
 /// Asks for each small letter as a transaction, and counts the events that this made.
@@ -320,8 +456,8 @@ fn ask_all(yard: &Manager, pass: ManagerPass, txn: u64) -> (ManagerPass, u64)
 #[test]
 fn two_threads_ask_side_by_side(rt: HostRuntime) -> Result<(), Fail> {
     let alloc = rt.alloc();
-    let (yard, one, two) = both(alloc)?;
-    let ((mut one, first), (mut two, second)) = join(
+    let (yard, one, two) = both(alloc, &plan(1000, 0, 2))?;
+    let ((one, first), (two, second)) = join(
         &rt,
         || -> (ManagerPass, u64)
             requires { IsPassOfTable yard.tree one × (1 ≤ (view_of one).rights) × (1 ≤ yard.tree.rows.plan.trees) }
@@ -334,13 +470,7 @@ fn two_threads_ask_side_by_side(rt: HostRuntime) -> Result<(), Fail> {
                 × ((view_of result.0).rights ≡ (view_of two).rights) }
         { ask_all(&yard, two, 2) },
     );
-    let right = two.rights();
-    let note = yard.share(&mut two, right);
-    yard.learn(&mut one, note);
-    let mut passes = Vec::new(alloc);
-    passes.push(one)?;
-    passes.push(two)?;
-    let closed = yard.close(alloc, passes)?;
+    let closed = close_both(alloc, yard, one, two)?;
     assert_eq!(rt; closed.places, first.wrapping_add(second));
     assert_eq!(rt; closed.lists.len(), 2);
     assert!(rt; closed.left.len() <= 26 && closed.left.len() as u64 == closed.used);
