@@ -5,6 +5,7 @@ use Rattle.std.proofs.lemmas.Bool.{cases_lt}
 use Rattle.std.proofs.lemmas.List.{take_all, length-take, take-append-drop}
 use Rattle.std.specs.declared.option.Option.{Option}
 use Rattle.std.specs.Io.KnownBytes.{Appends, IsAtEnd}
+use Rattle.std.specs.Prelude.{IfNone}
 use Rattle.lt_edge.specs.Bytes.{AppendsPart, ReadsUpTo}
 use Rattle.lt_trace.specs.Grammar.{deciding_bytes, Spells, IsFirstFault, Refuses as IsRefused}
 use Rattle.lt_trace.specs.declared.fault.TraceFault.{TraceFault}
@@ -13,11 +14,12 @@ use Rattle.lt_trace.proofs.FaultLaws.{spelled_not_refused}
 use Rattle.lt_trace.proofs.LengthLaws.{first_bytes_decide, traces_are_short}
 use Rattle.lt_watch.specs.Tellings.{Log}
 use Rattle.lt_program.specs.Answers.{IsAnswer, IsToldOrNot, status_of, bytes_of, sum_text}
-use Rattle.lt_program.specs.Words.{IsCommand, IsNoCommand, ArePlayers, AreMakers, command_by}
+use Rattle.lt_words.specs.Words.{IsCommand, IsNoCommand}
+use Rattle.lt_program.specs.Words.{ArePlayers, AreMakers, command_by}
 use Rattle.lt_program.specs.Statuses.{ReadsEnough, IsNoTrace, Plays, Refuses, BreaksOff, TellsOrNot, PlaysOrRefuses, Breaks, IsComplete}
-use Rattle.lt_program.specs.declared.words.Recipe.{Recipe}
-use Rattle.lt_program.specs.declared.words.Command.{Command}
-use Rattle.lt_program.specs.declared.words.Command.TheVariants.{Make, Sum}
+use Rattle.lt_words.specs.declared.command.Recipe.{Recipe}
+use Rattle.lt_words.specs.declared.command.Command.{Command}
+use Rattle.lt_words.specs.declared.command.Command.TheVariants.{Make, Sum}
 use Rattle.lt_program.specs.declared.player.Player.{Player}
 use Rattle.lt_program.specs.declared.answer.Answer.{Answer}
 use Rattle.lt_program.specs.declared.answer.Answer.TheVariants.{Text, Refusal}
@@ -171,3 +173,12 @@ sum_breaks words left rest before after untold told command recipe (Err e) same 
 pub asked_by : (player : Player) (words : List (List ℕ)) (command : Command) → command ≡ command_by player → IsCommand words command
     → ArePlayers words
 asked_by player words command same form = (player, subst (IsCommand words) same form)
+
+-- the command that was found is the words'
+pub found_form : (words : List (List ℕ)) (found : Option Command) (command : Command) → found ≡ Some command
+    → IfSome found (IsCommand words) → IsCommand words command
+found_form words found command is form = subst (λ o. IfSome o (IsCommand words)) is form
+
+-- where none was found, the words are no command
+pub none_found : (words : List (List ℕ)) (found : Option Command) → found ≡ None → IfNone found (IsNoCommand words) → IsNoCommand words
+none_found words found is none = subst (λ o. IfNone o (IsNoCommand words)) is none

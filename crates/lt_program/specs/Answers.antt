@@ -12,7 +12,7 @@ use Rattle.lt_program.specs.Runs.{HasPlayed}
 use Rattle.lt_program.specs.declared.answer.Answer.{Answer}
 use Rattle.lt_program.specs.declared.answer.Answer.TheVariants.{Text, Refusal}
 use Rattle.lt_program.specs.declared.player.Player.{Player}
-use Rattle.lt_program.specs.declared.words.Recipe.{Recipe}
+use Rattle.lt_words.specs.declared.command.Recipe.{Recipe}
 
 -- For the bytes that were read, with what the watches were told before and after.
 

@@ -10,13 +10,14 @@ use Rattle.lt_trace.specs.Grammar.{deciding_bytes, Spells, IsFirstFault}
 use Rattle.lt_trace.specs.declared.fault.TraceFault.{TraceFault}
 use Rattle.lt_watch.specs.Tellings.{Log}
 use Rattle.lt_seq.specs.declared.event.JoinNote.{JoinNote}
-use Rattle.lt_program.specs.Words.{IsCommand, ArePlayers, AreMakers, command_by}
+use Rattle.lt_words.specs.Words.{IsCommand}
+use Rattle.lt_program.specs.Words.{ArePlayers, AreMakers, command_by}
 use Rattle.lt_program.specs.Refusal.{fault_text}
 use Rattle.lt_program.specs.Runs.{IsRunOf, IsTextOfRun, HasTold}
 use Rattle.lt_program.specs.Answers.{IsAnswer, IsPlayed, bytes_of, made_text, sum_text}
 use Rattle.lt_program.specs.declared.answer.Answer.{Answer}
-use Rattle.lt_program.specs.declared.words.Command.{Command}
-use Rattle.lt_program.specs.declared.words.Command.TheVariants.{Serial, Crew, Make, Sum}
+use Rattle.lt_words.specs.declared.command.Command.{Command}
+use Rattle.lt_words.specs.declared.command.Command.TheVariants.{Serial, Crew, Make, Sum}
 use Rattle.lt_program.specs.declared.player.Player.{Player}
 use Rattle.lt_program.specs.declared.player.Player.TheVariants as players
 

@@ -1,47 +1,11 @@
--- The words of the command line.
-use Rattle.std.specs.Prelude.{◌≡◌, ℕ, ◌<◌, ◌≤◌, ◌^◌, ◌-◌, ◌⊎◌, List, [], ◌∷◌, codes, decimal}
-use Rattle.lt_trace.specs.Grammar.{IsNumber}
-use Rattle.lt_program.specs.declared.words.Recipe.{Recipe}
-use Rattle.lt_program.specs.declared.words.Command.{Command}
-use Rattle.lt_program.specs.declared.words.Command.TheVariants.{Serial, Crew, Make, Sum}
+-- Words that play a trace, and words that make one.
+use Rattle.std.specs.Prelude.{◌⊎◌, ℕ, List}
+use Rattle.lt_words.specs.Words.{IsCommand}
+use Rattle.lt_words.specs.declared.command.Recipe.{Recipe}
+use Rattle.lt_words.specs.declared.command.Command.{Command}
+use Rattle.lt_words.specs.declared.command.Command.TheVariants.{Serial, Crew, Make, Sum}
 use Rattle.lt_program.specs.declared.player.Player.{Player}
 use Rattle.lt_program.specs.declared.player.Player.TheVariants as players
-
--- the numbers are in the ranges of the generator
-pub record IsRecipe (recipe : Recipe) : Type 0 where
-  pub seed : recipe.seed < 2 ^ 64
-  pub some_txns : 1 ≤ recipe.txns
-  pub few_txns : recipe.txns ≤ 1024
-  pub some_lines : 1 ≤ recipe.lines
-  pub few_lines : recipe.lines ≤ 64512
-
--- the words spell these numbers, and they are in their ranges
-pub record SpellRecipe (seed txns lines : List ℕ) (recipe : Recipe) : Type 0 where
-  pub seed_is : IsNumber seed 0 (2 ^ 64 - 1) recipe.seed
-  pub txns_are : IsNumber txns 1 1024 recipe.txns
-  pub lines_are : IsNumber lines 1 64512 recipe.lines
-
--- the words are this one and the three numbers
-pub record IsMaker (word : List ℕ) (words : List (List ℕ)) (recipe : Recipe) : Type 0 where
-  pub words_are : words ≡ word ∷ decimal recipe.seed ∷ decimal recipe.txns ∷ decimal recipe.lines ∷ []
-  pub ranges : IsRecipe recipe
-
--- the words are `crew` and this number of workers
-pub record AreCrew (words : List (List ℕ)) (workers : ℕ) : Type 0 where
-  pub words_are : words ≡ codes "crew" ∷ decimal workers ∷ []
-  pub some_workers : 1 ≤ workers
-  pub few_workers : workers ≤ 16
-
--- the words are this command's form
-abbrev pub IsCommand : List (List ℕ) → Command → Type 0
-IsCommand words Serial = words ≡ codes "serial" ∷ []
-IsCommand words (Crew workers) = AreCrew words workers
-IsCommand words (Make recipe) = IsMaker (codes "make") words recipe
-IsCommand words (Sum recipe) = IsMaker (codes "sum") words recipe
-
--- they are none of the forms
-abbrev pub IsNoCommand : List (List ℕ) → Type 0
-IsNoCommand words = (command : Command) → ¬ IsCommand words command
 
 -- the command by which this player plays what is read
 abbrev pub command_by : Player → Command

@@ -9,17 +9,19 @@ mod refusal;
 mod running;
 pub mod status;
 mod unfailing;
-mod words;
 
 pub use running::run;
 pub use unfailing::run_unfailing;
-pub use words::{Command, Recipe, command_of};
 
 #[cfg(test)]
 mod tests;
 #[cfg(test)]
 mod tests_of_crews;
 #[cfg(test)]
+mod tests_of_gates;
+#[cfg(test)]
 mod tests_of_makers;
+#[cfg(test)]
+mod tests_of_tables;
 #[cfg(test)]
 mod tests_of_waits;

@@ -1,14 +1,14 @@
 //! What is written for a trace that is made.
 ghost use Rattle.std.specs.Prelude.{◌≡◌, IfOk};
-ghost use Rattle.lt_program.specs.Words.{IsRecipe};
+ghost use Rattle.lt_words.specs.Words.{IsRecipe};
 ghost use Rattle.lt_program.specs.Answers.{made_text, sum_text};
 
-use crate::words::Recipe;
 use lt_history::summary;
 use lt_manager::Manager;
 use lt_runner::run_serial;
 use lt_trace::{make, write};
 use lt_watch::NoWatches;
+use lt_words::Recipe;
 use std::alloc::{AllocError, Global};
 
 /// The text of the trace that is made of these numbers.

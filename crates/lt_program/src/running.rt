@@ -3,18 +3,19 @@ ghost use Rattle.std.specs.Prelude.{◌≡◌, ◌≢◌, ◌⊎◌, ◌↔◌, 
 ghost use Rattle.std.specs.Io.KnownBytes.{Appends};
 ghost use Rattle.lt_edge.specs.Bytes.{AppendsPart};
 ghost use Rattle.lt_edge.specs.Causes.{Rose};
-ghost use Rattle.lt_program.specs.Words.{IsCommand, IsNoCommand, ArePlayers, AreMakers};
-ghost use Rattle.lt_program.specs.declared.words.Command.{Command};
+ghost use Rattle.lt_words.specs.Words.{IsCommand, IsNoCommand};
+ghost use Rattle.lt_words.specs.declared.command.Command.{Command};
+ghost use Rattle.lt_program.specs.Words.{ArePlayers, AreMakers};
 ghost use Rattle.lt_program.specs.Statuses.{Works, Refuses, Breaks, TellsAsAsked, IsComplete};
 
 use crate::making::{made_text, sum_text};
 use crate::player::Player;
 use crate::playing::play;
 use crate::status;
-use crate::words::{Command, command_of};
 use lt_crew::Gate;
 use lt_edge::{Sink, Source, put_all};
 use lt_watch::Tells;
+use lt_words::{Command, command_of};
 use std::alloc::{AllocError, Global};
 use std::thread::Threads;
 
@@ -60,7 +61,10 @@ pub fn run<R: Threads + Sync, S: Source, K: Sink, T: Tells, G: Gate>(
     ensures complete { ¬ Rose (S.faults source.old) (S.faults source.new) → ¬ Rose (K.faults sink.old) (K.faults sink.new) →
         IsComplete (map string_bytes words.now) (S.left source.old) result }
 {
-    let Some(command) = command_of(words) else {
+    let Ok(found) = command_of(alloc, words) else {
+        return status::NO_MEMORY;
+    };
+    let Some(command) = found else {
         return status::USAGE;
     };
     match command {

@@ -3,7 +3,8 @@ ghost use Rattle.std.specs.Prelude.{◌≡◌, ◌⊎◌, ◌↔◌, Some, None,
 ghost use Rattle.lt_trace.specs.Trace.{TraceView};
 ghost use Rattle.lt_trace.specs.Grammar.{Spells};
 ghost use Rattle.lt_program.specs.Statuses.{Works};
-ghost use Rattle.lt_program.specs.Words.{IsNoCommand, ArePlayers, AreMakers};
+ghost use Rattle.lt_words.specs.Words.{IsNoCommand};
+ghost use Rattle.lt_program.specs.Words.{ArePlayers, AreMakers};
 
 use crate::running::run;
 use lt_crew::Gate;

@@ -1,10 +1,11 @@
 use Rattle.std.proofs.Common.{arith}
-use Rattle.lt_program.proofs.StatusLaws.{only_played, only_given, nothing_owed, sum_breaks, asked_by}
+use Rattle.lt_program.proofs.StatusLaws.{only_played, only_given, nothing_owed, sum_breaks, asked_by, found_form, none_found}
 use Rattle.lt_program.specs.declared.player.Player.TheVariants as players
 use Rattle.lt_program.proofs.running.run.Goals as goal
 
-pub returns-in_default-clause-complete : goal.returns-in_default-clause-complete
-returns-in_default-clause-complete g c = λ no_read no_write. nothing_owed _ _ 2 c.in_default.ensures.none
+pub returns-in_default-found-clause-complete : goal.returns-in_default-found-clause-complete
+returns-in_default-found-clause-complete g c = λ no_read no_write.
+    nothing_owed _ _ 2 (none_found _ _ c.in_default-found.is c.in-Ok.ensures.none)
 
 pub returns-in-Serial-clause-only : goal.returns-in-Serial-clause-only
 returns-in-Serial-clause-only g c = only_played c.play.result c.play.ensures.only
@@ -13,12 +14,16 @@ pub returns-in-Crew-clause-only : goal.returns-in-Crew-clause-only
 returns-in-Crew-clause-only g c = only_played c.play-in-Crew.result c.play-in-Crew.ensures.only
 
 pub returns-in-Crew-clause-refused : goal.returns-in-Crew-clause-refused
-returns-in-Crew-clause-refused g c = λ three.
-    (asked_by (players.Crew c.in-Crew.workers) _ _ c.in-Crew.is c.in-Some.ensures.some, c.play-in-Crew.ensures.refused three)
+returns-in-Crew-clause-refused g c = λ three. (
+  asked_by (players.Crew c.in-Crew.workers) _ _ c.in-Crew.is (found_form _ _ _ c.in-Some.is c.in-Ok.ensures.some),
+  c.play-in-Crew.ensures.refused three,
+)
 
 pub returns-in-Crew-clause-unread : goal.returns-in-Crew-clause-unread
-returns-in-Crew-clause-unread g c = λ four.
-    (asked_by (players.Crew c.in-Crew.workers) _ _ c.in-Crew.is c.in-Some.ensures.some, c.play-in-Crew.ensures.unread four)
+returns-in-Crew-clause-unread g c = λ four. (
+  asked_by (players.Crew c.in-Crew.workers) _ _ c.in-Crew.is (found_form _ _ _ c.in-Some.is c.in-Ok.ensures.some),
+  c.play-in-Crew.ensures.unread four,
+)
 
 pub returns-in-Make-clause-only : goal.returns-in-Make-clause-only
 returns-in-Make-clause-only g c = only_given c.give.result c.give.ensures.only
@@ -28,5 +33,6 @@ returns-in-Sum-clause-only g c = only_given c.give-in-Sum.result c.give-in-Sum.e
 
 pub returns-in-Sum-clause-part : goal.returns-in-Sum-clause-part
 returns-in-Sum-clause-part g c = λ five.
-    sum_breaks _ _ _ _ _ _ _ c.in-Some.command c.in-Sum.recipe c.sum_text.result c.in-Sum.is c.in-Some.ensures.some c.sum_text.ensures
+    sum_breaks _ _ _ _ _ _ _ c.in-Some.command c.in-Sum.recipe c.sum_text.result c.in-Sum.is
+    (found_form _ _ _ c.in-Some.is c.in-Ok.ensures.some) c.sum_text.ensures
     (c.give-in-Sum.ensures.some five) (c.give-in-Sum.ensures.there (λ six. omega arith))

@@ -1,39 +1,13 @@
-//! The words of the command line.
+//! The command that the words are, found without memory.
 ghost use Rattle.std.specs.Prelude.{◌∷◌, [], IfSome, IfNone, map, string_bytes};
-ghost use Rattle.lt_program.specs.declared.words.Recipe.{Recipe};
-ghost use Rattle.lt_program.specs.Words.{IsCommand, IsNoCommand, SpellRecipe};
+ghost use Rattle.lt_words.specs.declared.command.Recipe.{Recipe};
+ghost use Rattle.lt_words.specs.Words.{IsCommand, IsNoCommand, SpellRecipe};
 
+use crate::command::{Command, MOST_WORKERS, Recipe};
 use lt_trace::{MOST_DRAWN_LINES, number};
 
-/// The most workers of a crew.
-const MOST_WORKERS: u64 = 16;
-
-/// The numbers that a trace is made of.
-#[derive(Clone, Copy, Debug, PartialEq, Eq, Hash)]
-pub struct Recipe {
-    /// Any number of 64 bits.
-    pub seed: u64,
-    /// How many transactions it has, 1 to 1,024.
-    pub txns: u32,
-    /// How many lines are drawn, 1 to 64,512.
-    pub lines: u32,
-}
-
-/// What the words ask for.
-#[derive(Clone, Copy, Debug, PartialEq, Eq, Hash)]
-pub enum Command {
-    /// `serial`: play the trace that is read with the plain scheduler.
-    Serial,
-    /// `crew N`: play the trace that is read by a crew of so many workers, 1 to 16.
-    Crew(u32),
-    /// `make SEED TXNS LINES`: make a trace.
-    Make(Recipe),
-    /// `sum SEED TXNS LINES`: play that trace, and tell the run in one line of numbers.
-    Sum(Recipe),
-}
-
-/// The command that the words are, if they are one.
-pub fn command_of(words: &[String]) -> Option<Command>
+/// The command that the words are, if they are one. It takes no memory.
+pub(crate) fn by_hand(words: &[String]) -> Option<Command>
     ensures some { IfSome result (IsCommand (map string_bytes words.now)) }
     ensures none { IfNone result (IsNoCommand (map string_bytes words.now)) }
 {

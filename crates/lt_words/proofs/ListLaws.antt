@@ -1,13 +1,5 @@
--- Which words are a command.
+-- Lists of few words.
 use Rattle.std.proofs.Common.{◌≡◌, ◌≤◌, ◌<◌, List, [], ◌∷◌, length, map, get_or, sym, arith}
-
--- a list of two
-pub of_two : {X Y : Type 0} (f : X → Y) (xs : List X) (a b : X) → 2 ≤ length xs → length xs < 3 →
-    a ≡ get_or xs 0 a → b ≡ get_or xs 1 b → map f xs ≡ f a ∷ f b ∷ []
-of_two f [] a b least most p q = absurd (omega (arith, least))
-of_two f (x ∷ []) a b least most p q = absurd (omega (arith, least))
-of_two f (x ∷ y ∷ []) a b least most p q = λ i. f (sym p i) ∷ f (sym q i) ∷ []
-of_two f (x ∷ y ∷ z ∷ zs) a b least most p q = absurd (omega (arith, most))
 
 -- a list of four
 pub of_four : {X Y : Type 0} (f : X → Y) (xs : List X) (a b c d : X) → 4 ≤ length xs → length xs < 5 →

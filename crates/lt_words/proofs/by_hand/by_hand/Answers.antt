@@ -1,8 +1,8 @@
 use Rattle.std.proofs.Common.{◌∷◌, [], sym, subst, ◌∙◌}
 use Rattle.std.specs.Prelude.{IfNone, string_bytes}
-use Rattle.lt_program.specs.Words.{IsNoCommand}
-use Rattle.lt_program.proofs.WordLaws.{of_four}
-use Rattle.lt_program.proofs.words.command_of.Goals as goal
+use Rattle.lt_words.specs.Words.{IsNoCommand}
+use Rattle.lt_words.proofs.ListLaws.{of_four}
+use Rattle.lt_words.proofs.by_hand.by_hand.Goals as goal
 
 pub returns-in-len4-clause-none : goal.returns-in-len4-clause-none
 returns-in-len4-clause-none c =

@@ -1,0 +1,273 @@
+-- Words that clap takes are a form, and a form's words are taken.
+use Rattle.std.proofs.Common.{◌≡◌, ℕ, ◌==◌, ◌<◌, ◌≤◌, ◌^◌, List, [], ◌∷◌, Bool, true, false, true≢false, refl, codes, length}
+use Rattle.std.proofs.Common.{◌∙◌, sym, subst, Some, Option, arith, decimal, ◌⊎◌, inl, inr, ⊎_elim}
+use Rattle.std.specs.Str.{bytes_eq}
+use Rattle.std.specs.List.{AllByRecursion}
+use Rattle.std.proofs.lemmas.Slice.Eq.{bytes_eq-Decides}
+use Rattle.std.proofs.lemmas.Bool.Decides.{Decides-eqb}
+use Rattle.std.proofs.lemmas.Fmt.{decimal_nonempty}
+use Rattle.clap.specs.Walk.{Text, Row, is_empty, first_of}
+use Rattle.clap.specs.Simple.{subcommand_of}
+use Rattle.clap.specs.Takes.{takes}
+use Rattle.clap.specs.Faults.{fault_of}
+use Rattle.lt_trace.specs.Grammar.{IsNumber}
+use Rattle.lt_trace.specs.Cut.{Lacks}
+use Rattle.lt_trace.proofs.TextLaws.{decimal_lacks}
+use Rattle.lt_words.specs.Words.{IsCommand, IsMaker, IsRecipe}
+use Rattle.lt_words.specs.Grammar.{grammar}
+use Rattle.lt_words.specs.Reading.{AreGiven, IsGiven, IsPlain, IsRead, Reads}
+use Rattle.lt_words.specs.declared.command.Recipe.{Recipe}
+use Rattle.lt_words.specs.declared.command.Command.{Command}
+use Rattle.lt_words.specs.declared.command.Command.TheVariants.{Serial, Crew, Make, Sum}
+use Rattle.lt_words.proofs.ReadingLaws.{differ}
+use Rattle.lt_words.proofs.Taking.{finds_crew, finds_make, finds_serial, finds_sum, given, three_given}
+use Rattle.lt_words.proofs.Taking.{takes_crew, takes_make, takes_serial, takes_sum, no_word, unknown_word}
+use Rattle.lt_words.proofs.Taking.{crew_alone, make_alone, make_with_one, make_with_two, sum_alone, sum_with_one, sum_with_two}
+use Rattle.lt_words.proofs.Refusing.{crew_with_more, make_with_more, serial_with_more, sum_with_more}
+
+-- no word is empty or begins with `-`
+abbrev pub ArePlain : List Text → Type 0
+ArePlain words = AllByRecursion IsPlain words
+
+-- the words that clap takes
+data Form : List Text → Type 0 where
+  serial : Form (codes "serial" ∷ [])
+  crew : (w : Text) → IsPlain w → Form (codes "crew" ∷ w ∷ [])
+  make : (a b c : Text) → IsPlain a → IsPlain b → IsPlain c → Form (codes "make" ∷ a ∷ b ∷ c ∷ [])
+  sum : (a b c : Text) → IsPlain a → IsPlain b → IsPlain c → Form (codes "sum" ∷ a ∷ b ∷ c ∷ [])
+
+abbrev Passes : List Text → Type 0
+Passes words = is_empty (fault_of grammar words) ≡ true
+
+never : (b : Bool) → b ≡ false → b ≡ true → ⊥
+never b no_b b_is = true≢false (sym b_is ∙ no_b)
+
+serial_form : (ws : List Text) → ArePlain ws → Passes (codes "serial" ∷ ws) → Form (codes "serial" ∷ ws)
+serial_form [] p e = serial
+serial_form ([] ∷ ws) p e = absurd p.0
+serial_form ((x ∷ xs) ∷ ws) p e = absurd (never _ (serial_with_more x xs ws p.0) e)
+
+crew_form : (ws : List Text) → ArePlain ws → Passes (codes "crew" ∷ ws) → Form (codes "crew" ∷ ws)
+crew_form [] p e = absurd (never _ crew_alone e)
+crew_form (w ∷ []) p e = crew w p.0
+crew_form ([] ∷ v ∷ ws) p e = absurd p.0
+crew_form ((x ∷ xs) ∷ [] ∷ ws) p e = absurd p.1.0
+crew_form ((x ∷ xs) ∷ (y ∷ ys) ∷ ws) p e = absurd (never _ (crew_with_more x y xs ys ws p.0 p.1.0) e)
+
+make_form : (ws : List Text) → ArePlain ws → Passes (codes "make" ∷ ws) → Form (codes "make" ∷ ws)
+make_form [] p e = absurd (never _ make_alone e)
+make_form ([] ∷ ws) p e = absurd p.0
+make_form ((x ∷ xs) ∷ []) p e = absurd (never _ (make_with_one x xs p.0) e)
+make_form ((x ∷ xs) ∷ [] ∷ ws) p e = absurd p.1.0
+make_form ((x ∷ xs) ∷ (y ∷ ys) ∷ []) p e = absurd (never _ (make_with_two x y xs ys p.0 p.1.0) e)
+make_form ((x ∷ xs) ∷ (y ∷ ys) ∷ c ∷ []) p e = make (x ∷ xs) (y ∷ ys) c p.0 p.1.0 p.1.1.0
+make_form ((x ∷ xs) ∷ (y ∷ ys) ∷ [] ∷ d ∷ ws) p e = absurd p.1.1.0
+make_form ((x ∷ xs) ∷ (y ∷ ys) ∷ (z ∷ zs) ∷ [] ∷ ws) p e = absurd p.1.1.1.0
+make_form ((x ∷ xs) ∷ (y ∷ ys) ∷ (z ∷ zs) ∷ (u ∷ us) ∷ ws) p e =
+    absurd (never _ (make_with_more x y z u xs ys zs us ws p.0 p.1.0 p.1.1.0 p.1.1.1.0) e)
+
+sum_form : (ws : List Text) → ArePlain ws → Passes (codes "sum" ∷ ws) → Form (codes "sum" ∷ ws)
+sum_form [] p e = absurd (never _ sum_alone e)
+sum_form ([] ∷ ws) p e = absurd p.0
+sum_form ((x ∷ xs) ∷ []) p e = absurd (never _ (sum_with_one x xs p.0) e)
+sum_form ((x ∷ xs) ∷ [] ∷ ws) p e = absurd p.1.0
+sum_form ((x ∷ xs) ∷ (y ∷ ys) ∷ []) p e = absurd (never _ (sum_with_two x y xs ys p.0 p.1.0) e)
+sum_form ((x ∷ xs) ∷ (y ∷ ys) ∷ c ∷ []) p e = sum (x ∷ xs) (y ∷ ys) c p.0 p.1.0 p.1.1.0
+sum_form ((x ∷ xs) ∷ (y ∷ ys) ∷ [] ∷ d ∷ ws) p e = absurd p.1.1.0
+sum_form ((x ∷ xs) ∷ (y ∷ ys) ∷ (z ∷ zs) ∷ [] ∷ ws) p e = absurd p.1.1.1.0
+sum_form ((x ∷ xs) ∷ (y ∷ ys) ∷ (z ∷ zs) ∷ (u ∷ us) ∷ ws) p e =
+    absurd (never _ (sum_with_more x y z u xs ys zs us ws p.0 p.1.0 p.1.1.0 p.1.1.1.0) e)
+
+-- the first word is this name, or it is not
+named : (name word : Text) → (name ≡ word) ⊎ (bytes_eq name word ≡ false)
+named name word = go (bytes_eq name word) refl
+  where
+    go : (b : Bool) → bytes_eq name word ≡ b → (name ≡ word) ⊎ (bytes_eq name word ≡ false)
+    go true e = inl ((bytes_eq-Decides name word).0 e)
+    go false e = inr e
+
+-- a form's words by another name for its first
+renamed : (name word : Text) (ws : List Text) → name ≡ word → (Passes (name ∷ ws) → Form (name ∷ ws))
+    → Passes (word ∷ ws) → Form (word ∷ ws)
+renamed name word ws is form e = subst (λ w. Form (w ∷ ws)) is (form (subst (λ w. Passes (w ∷ ws)) (sym is) e))
+
+form_taken : (ws : List Text) → ArePlain ws → Passes ws → Form ws
+form_taken [] p e = absurd (never _ no_word e)
+form_taken ([] ∷ ws) p e = absurd p.0
+form_taken ((x ∷ xs) ∷ ws) p e =
+    ⊎_elim (λ is. renamed (codes "serial") (x ∷ xs) ws is (serial_form ws p.1) e)
+    (λ no_serial. ⊎_elim (λ is. renamed (codes "crew") (x ∷ xs) ws is (crew_form ws p.1) e)
+    (λ no_crew. ⊎_elim (λ is. renamed (codes "make") (x ∷ xs) ws is (make_form ws p.1) e)
+    (λ no_make. ⊎_elim (λ is. renamed (codes "sum") (x ∷ xs) ws is (sum_form ws p.1) e)
+    (λ no_sum. absurd (never _ (unknown_word x xs ws p.0 no_serial no_crew no_make no_sum) e))
+    (named (codes "sum") (x ∷ xs)))
+    (named (codes "make") (x ∷ xs)))
+    (named (codes "crew") (x ∷ xs)))
+    (named (codes "serial") (x ∷ xs))
+
+-- ---- what is read is the command
+
+-- the number of a value
+number_of : (rows : List Row) (name w : Text) (least most n : ℕ) → first_of name rows ≡ Some w → IsGiven rows name least most n
+    → IsNumber w least most n
+number_of rows name w least most n is g =
+    let found = g.found in
+    let same : g.text ≡ w = cc in
+    subst (λ t. IsNumber t least most n) same g.number
+
+recipe_of : (a b c : Text) (recipe : Recipe) → AreGiven (three_given a b c) recipe
+    → (name : Text) → IsMaker name (name ∷ a ∷ b ∷ c ∷ []) recipe
+recipe_of a b c recipe g name =
+    let seed = number_of (three_given a b c) (codes "SEED") a _ _ _ refl g.seed_is in
+    let txns = number_of (three_given a b c) (codes "TXNS") b _ _ _ refl g.txns_are in
+    let lines = number_of (three_given a b c) (codes "LINES") c _ _ _ refl g.lines_are in
+    record {
+      words_are = λ i. name ∷ seed.spelled i ∷ txns.spelled i ∷ lines.spelled i ∷ [];
+      ranges = record {
+        seed = omega (arith, seed.up_to);
+        some_txns = txns.from;
+        few_txns = txns.up_to;
+        some_lines = lines.from;
+        few_lines = lines.up_to;
+      };
+    }
+
+serial_read : (c : Command) → Reads (codes "serial") [] c → IsCommand (codes "serial" ∷ []) c
+serial_read Serial r = refl
+serial_read (Crew n) r = absurd (differ (codes "serial") (codes "crew") refl r.0)
+serial_read (Make recipe) r = absurd (differ (codes "serial") (codes "make") refl r.0)
+serial_read (Sum recipe) r = absurd (differ (codes "serial") (codes "sum") refl r.0)
+
+crew_read : (w : Text) (c : Command) → Reads (codes "crew") (given (codes "N") w ∷ []) c → IsCommand (codes "crew" ∷ w ∷ []) c
+crew_read w Serial r = absurd (differ (codes "crew") (codes "serial") refl r)
+crew_read w (Crew n) r =
+    let is = number_of (given (codes "N") w ∷ []) (codes "N") w _ _ _ refl r.1 in
+    record { words_are = λ i. codes "crew" ∷ is.spelled i ∷ []; some_workers = is.from; few_workers = is.up_to }
+crew_read w (Make recipe) r = absurd (differ (codes "crew") (codes "make") refl r.0)
+crew_read w (Sum recipe) r = absurd (differ (codes "crew") (codes "sum") refl r.0)
+
+make_read : (a b c : Text) (command : Command) → Reads (codes "make") (three_given a b c) command
+    → IsCommand (codes "make" ∷ a ∷ b ∷ c ∷ []) command
+make_read a b c Serial r = absurd (differ (codes "make") (codes "serial") refl r)
+make_read a b c (Crew n) r = absurd (differ (codes "make") (codes "crew") refl r.0)
+make_read a b c (Make recipe) r = recipe_of a b c recipe r.1 (codes "make")
+make_read a b c (Sum recipe) r = absurd (differ (codes "make") (codes "sum") refl r.0)
+
+sum_read : (a b c : Text) (command : Command) → Reads (codes "sum") (three_given a b c) command
+    → IsCommand (codes "sum" ∷ a ∷ b ∷ c ∷ []) command
+sum_read a b c Serial r = absurd (differ (codes "sum") (codes "serial") refl r)
+sum_read a b c (Crew n) r = absurd (differ (codes "sum") (codes "crew") refl r.0)
+sum_read a b c (Make recipe) r = absurd (differ (codes "sum") (codes "make") refl r.0)
+sum_read a b c (Sum recipe) r = recipe_of a b c recipe r.1 (codes "sum")
+
+same_form : (a b : Text × List Row) → Some a ≡ Some b → a ≡ b
+same_form a b e = cc
+
+-- what is read of the form that is there
+reads_it : (form : Option (Text × List Row)) (name : Text) (rows : List Row) (c : Command) → form ≡ Some (name, rows) → IsRead form c
+    → Reads name rows c
+reads_it form name rows c is r =
+    subst (λ (p : Text × List Row). Reads p.0 p.1 c) (same_form (r.name, r.rows) (name, rows) (sym r.met ∙ is)) r.read
+
+read_of_form : (ws : List Text) → Form ws → (c : Command) → IsRead (subcommand_of grammar ws) c → IsCommand ws c
+read_of_form _ serial c r = serial_read c (reads_it _ _ _ c finds_serial r)
+read_of_form _ (crew w p) c r = crew_read w c (reads_it _ _ _ c (finds_crew w p) r)
+read_of_form _ (make a b d p q s) c r = make_read a b d c (reads_it _ _ _ c (finds_make a b d p q s) r)
+read_of_form _ (sum a b d p q s) c r = sum_read a b d c (reads_it _ _ _ c (finds_sum a b d p q s) r)
+
+-- what is read of plain words that clap takes is the command
+pub read_is_command : (ws : List Text) → ArePlain ws → is_empty (fault_of grammar ws) ≡ true → (c : Command)
+    → IsRead (subcommand_of grammar ws) c → IsCommand ws c
+read_is_command ws p e c r = read_of_form ws (form_taken ws p e) c r
+
+-- ---- a command's words are taken, and it is read of them
+
+plain_text : (text : Text) → 0 < length text → Lacks 45 text → IsPlain text
+plain_text [] some lacks = absurd (omega (arith, some))
+plain_text (x ∷ xs) some lacks = go (x == 45) refl
+  where
+    go : (b : Bool) → (x == 45) ≡ b → (x == 45) ≡ false
+    go true e = absurd (lacks.0 ((Decides-eqb x 45).0 e))
+    go false e = e
+
+plain_number : (n : ℕ) → n < 2 ^ 64 → IsPlain (decimal n)
+plain_number n small = plain_text (decimal n) (decimal_nonempty n small) (decimal_lacks 45 n small (omega arith))
+
+-- the words are plain, clap takes them, and the command is read
+pub record Answers (ws : List Text) (c : Command) : Type 0 where
+  pub plain : ArePlain ws
+  pub takes_them : takes grammar ws ≡ true
+  pub reads : IsRead (subcommand_of grammar ws) c
+
+given_number : (rows : List Row) (name : Text) (least most n : ℕ) → first_of name rows ≡ Some (decimal n) → least ≤ n → n ≤ most
+    → IsGiven rows name least most n
+given_number rows name least most n is from up_to =
+    record { text = decimal n; found = is; number = record { spelled = refl; from = from; up_to = up_to } }
+
+given_recipe : (r : Recipe) → IsRecipe r → AreGiven (three_given (decimal r.seed) (decimal r.txns) (decimal r.lines)) r
+given_recipe r is =
+    let rows = three_given (decimal r.seed) (decimal r.txns) (decimal r.lines) in
+    record {
+      seed_is = given_number rows (codes "SEED") _ _ r.seed refl (omega arith) (omega (arith, is.seed));
+      txns_are = given_number rows (codes "TXNS") _ _ r.txns refl is.some_txns is.few_txns;
+      lines_are = given_number rows (codes "LINES") _ _ r.lines refl is.some_lines is.few_lines;
+    }
+
+serial_answers : Answers (codes "serial" ∷ []) Serial
+serial_answers = record {
+  plain = (refl, tt);
+  takes_them = takes_serial;
+  reads = record { name = codes "serial"; rows = []; met = finds_serial; read = refl };
+}
+
+crew_answers : (n : ℕ) → 1 ≤ n → n ≤ 16 → Answers (codes "crew" ∷ decimal n ∷ []) (Crew n)
+crew_answers n from up_to =
+    let p = plain_number n (omega (arith, up_to)) in
+    record {
+      plain = (refl, (p, tt));
+      takes_them = takes_crew (decimal n) p;
+      reads = record {
+        name = codes "crew";
+        rows = given (codes "N") (decimal n) ∷ [];
+        met = finds_crew (decimal n) p;
+        read = (refl, given_number (given (codes "N") (decimal n) ∷ []) (codes "N") 1 16 n refl from up_to);
+      };
+    }
+
+make_answers : (r : Recipe) → IsRecipe r → Answers (codes "make" ∷ decimal r.seed ∷ decimal r.txns ∷ decimal r.lines ∷ []) (Make r)
+make_answers r is =
+    let p = plain_number r.seed is.seed in
+    let q = plain_number r.txns (omega (arith, is.few_txns)) in
+    let s = plain_number r.lines (omega (arith, is.few_lines)) in
+    record {
+      plain = (refl, (p, (q, (s, tt))));
+      takes_them = takes_make _ _ _ p q s;
+      reads = record {
+        name = codes "make";
+        rows = three_given (decimal r.seed) (decimal r.txns) (decimal r.lines);
+        met = finds_make _ _ _ p q s;
+        read = (refl, given_recipe r is);
+      };
+    }
+
+sum_answers : (r : Recipe) → IsRecipe r → Answers (codes "sum" ∷ decimal r.seed ∷ decimal r.txns ∷ decimal r.lines ∷ []) (Sum r)
+sum_answers r is =
+    let p = plain_number r.seed is.seed in
+    let q = plain_number r.txns (omega (arith, is.few_txns)) in
+    let s = plain_number r.lines (omega (arith, is.few_lines)) in
+    record {
+      plain = (refl, (p, (q, (s, tt))));
+      takes_them = takes_sum _ _ _ p q s;
+      reads = record {
+        name = codes "sum";
+        rows = three_given (decimal r.seed) (decimal r.txns) (decimal r.lines);
+        met = finds_sum _ _ _ p q s;
+        read = (refl, given_recipe r is);
+      };
+    }
+
+pub command_answers : (ws : List Text) (c : Command) → IsCommand ws c → Answers ws c
+command_answers ws Serial is = subst (λ v. Answers v Serial) (sym is) serial_answers
+command_answers ws (Crew n) is = subst (λ v. Answers v (Crew n)) (sym is.words_are) (crew_answers n is.some_workers is.few_workers)
+command_answers ws (Make r) is = subst (λ v. Answers v (Make r)) (sym is.words_are) (make_answers r is.ranges)
+command_answers ws (Sum r) is = subst (λ v. Answers v (Sum r)) (sym is.words_are) (sum_answers r is.ranges)

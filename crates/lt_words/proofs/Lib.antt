@@ -1,0 +1,6 @@
+pub mod ListLaws
+pub mod ReadingLaws
+pub mod Taking
+pub mod Refusing
+pub mod FormLaws
+pub mod WordLaws

@@ -1,0 +1,38 @@
+-- What is read of the words that clap took.
+use Rattle.std.specs.Prelude.{◌≡◌, ℕ, ◌^◌, ◌-◌, ◌==◌, false, List, [], ◌∷◌, codes, Some, Option}
+use Rattle.clap.specs.Walk.{Row, Text, first_of}
+use Rattle.lt_trace.specs.Grammar.{IsNumber}
+use Rattle.lt_words.specs.declared.command.Recipe.{Recipe}
+use Rattle.lt_words.specs.declared.command.Command.{Command}
+use Rattle.lt_words.specs.declared.command.Command.TheVariants.{Serial, Crew, Make, Sum}
+
+-- the word is not empty, and does not begin with `-`
+abbrev pub IsPlain : Text → Type 0
+IsPlain [] = ⊥
+IsPlain (x ∷ xs) = (x == 45) ≡ false
+
+-- the value of this name spells the number, which is in its range
+pub record IsGiven (rows : List Row) (name : Text) (least most n : ℕ) : Type 0 where
+  pub text : Text
+  pub found : first_of name rows ≡ Some text
+  pub number : IsNumber text least most n
+
+-- the values spell these numbers
+pub record AreGiven (rows : List Row) (recipe : Recipe) : Type 0 where
+  pub seed_is : IsGiven rows (codes "SEED") 0 (2 ^ 64 - 1) recipe.seed
+  pub txns_are : IsGiven rows (codes "TXNS") 1 1024 recipe.txns
+  pub lines_are : IsGiven rows (codes "LINES") 1 64512 recipe.lines
+
+-- the form of this name, with these values, is the command
+abbrev pub Reads : Text → List Row → Command → Type 0
+Reads name rows Serial = name ≡ codes "serial"
+Reads name rows (Crew workers) = (name ≡ codes "crew") × IsGiven rows (codes "N") 1 16 workers
+Reads name rows (Make recipe) = (name ≡ codes "make") × AreGiven rows recipe
+Reads name rows (Sum recipe) = (name ≡ codes "sum") × AreGiven rows recipe
+
+-- the form that was met is the command
+pub record IsRead (form : Option (Text × List Row)) (command : Command) : Type 0 where
+  pub name : Text
+  pub rows : List Row
+  pub met : form ≡ Some (name, rows)
+  pub read : Reads name rows command

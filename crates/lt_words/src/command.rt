@@ -1,0 +1,28 @@
+//! What the words ask for.
+
+/// The most workers of a crew.
+pub(crate) const MOST_WORKERS: u64 = 16;
+
+/// The numbers that a trace is made of.
+#[derive(Clone, Copy, Debug, PartialEq, Eq, Hash)]
+pub struct Recipe {
+    /// Any number of 64 bits.
+    pub seed: u64,
+    /// How many transactions it has, 1 to 1,024.
+    pub txns: u32,
+    /// How many lines are drawn, 1 to 64,512.
+    pub lines: u32,
+}
+
+/// What the words ask for.
+#[derive(Clone, Copy, Debug, PartialEq, Eq, Hash)]
+pub enum Command {
+    /// `serial`: play the trace that is read with the plain scheduler.
+    Serial,
+    /// `crew N`: play the trace that is read by a crew of so many workers, 1 to 16.
+    Crew(u32),
+    /// `make SEED TXNS LINES`: make a trace.
+    Make(Recipe),
+    /// `sum SEED TXNS LINES`: play that trace, and tell the run in one line of numbers.
+    Sum(Recipe),
+}

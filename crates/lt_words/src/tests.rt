@@ -1,0 +1,83 @@
+//! Words that are a command, and words that are none.
+use crate::{Command, Recipe, command_of};
+use std::alloc::{AllocError, Global};
+use std::test::Fail;
+
+/// The command of these words.
+fn command(alloc: Global, words: &[&str]) -> Result<Option<Command>, AllocError> {
+    let mut owned = Vec::new(alloc);
+    for word in words {
+        owned.push(String::from_str(alloc, word)?)?;
+    }
+    command_of(alloc, &owned)
+}
+
+const LEAST: Recipe = Recipe {
+    seed: 0,
+    txns: 1,
+    lines: 1,
+};
+
+const MOST: Recipe = Recipe {
+    seed: u64::MAX,
+    txns: 1_024,
+    lines: 64_512,
+};
+
+/// Each form with the least and the most numbers.
+const FORMS: [(&[&str], Command); 7] = [
+    (&["serial"], Command::Serial),
+    (&["crew", "1"], Command::Crew(1)),
+    (&["crew", "16"], Command::Crew(16)),
+    (&["make", "0", "1", "1"], Command::Make(LEAST)),
+    (
+        &["make", "18446744073709551615", "1024", "64512"],
+        Command::Make(MOST),
+    ),
+    (&["sum", "0", "1", "1"], Command::Sum(LEAST)),
+    (
+        &["sum", "18446744073709551615", "1024", "64512"],
+        Command::Sum(MOST),
+    ),
+];
+
+#[test]
+fn each_form_is_read(rt: HostRuntime) -> Result<(), Fail> {
+    let alloc = rt.alloc();
+    for (words, read) in FORMS {
+        assert_eq!(rt; command(alloc, words)?, Some(read));
+    }
+    Ok(())
+}
+
+/// Words that are no command: empty ones, ones that begin with `-`, stray ones, too few, a number that is written otherwise or
+/// out of its range, and what asks for help.
+const NO_COMMAND: [&[&str]; 18] = [
+    &[],
+    &[""],
+    &["-x"],
+    &["--", "serial"],
+    &["serial", "x"],
+    &["serial", ""],
+    &["serially"],
+    &["crew"],
+    &["crew", "-1"],
+    &["crew", "04"],
+    &["crew", "17"],
+    &["crew", "4", "4"],
+    &["make", "0", "1"],
+    &["make", "18446744073709551616", "1", "1"],
+    &["sum", "0", "1", "1", "1"],
+    &["help"],
+    &["--help"],
+    &["serial", "--help"],
+];
+
+#[test]
+fn other_words_are_no_command(rt: HostRuntime) -> Result<(), Fail> {
+    let alloc = rt.alloc();
+    for words in NO_COMMAND {
+        assert_eq!(rt; command(alloc, words)?, None);
+    }
+    Ok(())
+}
