@@ -1,4 +1,4 @@
-"""Random traces with all forms of line, few keys, buffers and small limits."""
+"""Random traces with all forms of line, few keys, buffers and small limits, and crowded ones."""
 
 import random
 
@@ -40,4 +40,25 @@ def random_trace(seed):
         else:
             lines.append("%d %s" % (txn, rng.choice(["end", "end", "abort"])))
             ended.add(txn)
+    return "".join(line + "\n" for line in lines).encode()
+
+
+def crowded_trace(seed):
+    """Forty transactions on one small tree, that wait for each other, join, and begin buffers."""
+    rng = random.Random(seed)
+    lines = ["rangelock 2", "trees 1", "limit 24", "buffer 3"]
+    left = list(range(1, 41))
+    for _ in range(400):
+        txn, roll = rng.choice(left), rng.random()
+        if roll < 0.8:
+            first = rng.randrange(16)
+            keys = first, min(first + rng.choice([0, 0, 0, 1, 4]), 15)
+            lines.append('%d %s 0 "%x" "%x"' % (txn, rng.choice(["try", "lock", "lock"]), *keys))
+        elif roll < 0.88:
+            lines.append("%d escalate 0" % txn)
+        elif roll < 0.9:
+            lines.append("%d big" % txn)
+        elif len(left) > 1:
+            lines.append("%d %s" % (txn, rng.choice(["end", "abort"])))
+            left.remove(txn)
     return "".join(line + "\n" for line in lines).encode()
