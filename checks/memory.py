@@ -1,8 +1,6 @@
 #!/usr/bin/env python3
 """Refuses each allocation of some runs in turn: the status is 0, or 6 with nothing written. Needs cc, and glibc.
 
-No crew is among them: where the system starts no thread, for want of memory too, the kit's runtime ends the program (it aborts).
-
 usage: memory.py PATH_OF_RANGELOCK
 """
 
@@ -15,6 +13,7 @@ HERE = os.path.dirname(os.path.abspath(__file__))
 EXAMPLES = os.path.join(HERE, "..", "examples")
 RUNS = [
     (["serial"], "deadlock_of_two.trace"),
+    (["crew", "2"], "deadlock_of_two.trace"),
     (["make", "7", "4", "20"], "empty.trace"),
     (["sum", "7", "4", "20"], "empty.trace"),
 ]

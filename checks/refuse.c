@@ -26,6 +26,7 @@ static int refuses(void) {
   const char *name = getenv("REFUSED");
   int file = name ? open(name, O_CREAT | O_WRONLY, 0600) : -1;
   if (file >= 0) close(file);
+  errno = ENOMEM;
   return 1;
 }
 
