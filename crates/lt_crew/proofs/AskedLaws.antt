@@ -100,7 +100,7 @@ asked_at setting old new registry registry_now seats index d is alone of_crew in
     on : StartsOn setting wishes old new seat asked.answer
     on = starts_play_on setting (bar_of setting seat.turn) seat asked.wish (others_for seat.listed asked.wish registry) wishes registry old new
         asked.left asked.answer refl
-        (record { number = alone.number; all = alone.all; trees = alone.plan.trees; places = omega (arith, asking.few, room) })
+        (record { all = alone.all; trees = alone.plan.trees; places = omega (arith, asking.few, room) })
         alone.sound asking.own asked.started
 
 pub asks_at : (setting : Setting) (old new : PassView) (registry registry_now : List Wish) (seats : List Seat) (index : ℕ) (d e is : Seat) →

@@ -211,7 +211,7 @@ caller_asks setting lines bar registry seats index seat wish listed old new left
 
     on : StartsOn setting (wishes_for listed wish registry) old new seat result
     on = starts_play_on setting bar seat wish (others_for listed wish registry) (wishes_for listed wish registry) registry old new left result same
-        (record { number = alone.number; all = alone.all; trees = alone.plan.trees; places = omega (arith, asking.few, room) })
+        (record { all = alone.all; trees = alone.plan.trees; places = omega (arith, asking.few, room) })
         alone.sound asking.own started
 
     behind : IsBehind setting lines new.front (slice_set seats index (seat_so seat.turn result))

@@ -36,8 +36,7 @@ use Rattle.lt_runner.specs.Plays.{Past, is_ask, is_lock, is_held, line_question,
 use Rattle.lt_runner.specs.Seats.{idle, granted_at}
 use Rattle.lt_runner.specs.Played.{Search, IsAmong, MovesBy}
 use Rattle.lt_runner.specs.PlaysOn.{PlaysOn}
-use Rattle.lt_runner.specs.StartsAlone.{MayStartAtOnce}
-use Rattle.lt_runner.specs.StartsOn.{IsAmongWishes, SearchesOn, StartsOn}
+use Rattle.lt_runner.specs.StartsOn.{IsAmongWishes, SearchesOn, MayStart, StartsOn}
 use Rattle.lt_runner.proofs.LockMoveLaws.{HasLock, has_lock}
 use Rattle.lt_runner.proofs.PlaysOnLaws.{plays_move, all_append}
 use Rattle.lt_runner.proofs.StartedLaws.{same_reply, answers_of, not_held}
@@ -359,7 +358,7 @@ stopped_plays setting bar seat wish wishes old new place rows same trees sound a
 
 pub starts_play_on : (setting : Setting) (bar : ℕ) (seat : Seat) (wish : Wish) (others wishes before : List Wish) (old new : PassView)
     (left : List Wish) (result : Result Started Fault) →
-    bar ≡ bar_of setting seat.turn → MayStartAtOnce setting old wishes → IsSound setting old → IsAmongWishes seat wish wishes →
+    bar ≡ bar_of setting seat.turn → MayStart setting old wishes → IsSound setting old → IsAmongWishes seat wish wishes →
     IsStarted setting bar wish others wishes before old new left result →
     StartsOn setting wishes old new seat result
 starts_play_on setting bar seat wish others wishes before old new left (Ok (StartedGranted place buffered)) same may sound among is =

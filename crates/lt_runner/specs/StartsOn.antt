@@ -1,9 +1,9 @@
--- What a start or a retry by a crew's caller makes of a transaction that waits.
-use Rattle.std.specs.Prelude.{◌≡◌, ℕ, ◌<◌, ◌≤◌, List, [], ◌∷◌, Some, Result, Ok, Err}
+-- What a start or a retry by a pass that acts alone makes of a transaction that waits.
+use Rattle.std.specs.Prelude.{◌≡◌, ℕ, ◌+◌, ◌<◌, ◌≤◌, List, [], ◌∷◌, length, Some, Result, Ok, Err}
 use Rattle.lt_seq.specs.declared.fault.Fault.{Fault}
 use Rattle.lt_seq.specs.declared.fault.Fault.TheVariants.{OutOfMemory, Busy, HistoryFull, OutOfLocks}
 use Rattle.lt_seq.specs.Table.{Setting}
-use Rattle.lt_seq.specs.Yard.{PassView, IsSound, place_after}
+use Rattle.lt_seq.specs.Yard.{PassView, HasAll, IsSound, place_after, places_end}
 use Rattle.lt_requests.specs.declared.wish.Wish.{Wish}
 use Rattle.lt_requests.specs.declared.started.Started.{Started}
 use Rattle.lt_requests.specs.declared.started.Started.TheVariants.{Granted, Waits, Deadlock}
@@ -13,7 +13,6 @@ use Rattle.lt_runner.specs.TurnView.{Seat}
 use Rattle.lt_runner.specs.Plays.{next_wish}
 use Rattle.lt_runner.specs.Attempt.{bar_of}
 use Rattle.lt_runner.specs.PlaysOn.{PlaysOn}
-use Rattle.lt_runner.specs.StartsAlone.{MayStartAtOnce}
 use Rattle.lt_runner.specs.Board.{seat_so}
 
 -- Its next line is a lock line, for which this is its wish, and it is among those that are registered then.
@@ -41,11 +40,17 @@ StartsOn setting wishes old new was (Err (HistoryFull place)) = ⊥
 StartsOn setting wishes old new was (Err (OutOfLocks place used_rows)) =
     PlaysOn setting [] old new was (seat_so was.turn (Err (OutOfLocks place used_rows)))
 
+-- A pass that has all the rights, of whatever number, with places for the joins of all trees, an ask, and a question for each that waits.
+pub record MayStart (setting : Setting) (pass : PassView) (wishes : List Wish) : Type 0 where
+  pub all : HasAll setting pass
+  pub trees : 1 ≤ setting.plan.trees
+  pub places : place_after setting pass.front + setting.plan.trees + 1 + length wishes ≤ places_end
+
 -- So it is for each answer of a start or a retry by a pass that has all the rights, whether the transaction waited before or not.
 abbrev pub StartsPlayOn : Type 0
 StartsPlayOn =
     (setting : Setting) (bar : ℕ) (seat : Seat) (wish : Wish) (others wishes before : List Wish) (old new : PassView)
     (left : List Wish) (result : Result Started Fault)
-    → bar ≡ bar_of setting seat.turn → MayStartAtOnce setting old wishes → IsSound setting old → IsAmongWishes seat wish wishes
+    → bar ≡ bar_of setting seat.turn → MayStart setting old wishes → IsSound setting old → IsAmongWishes seat wish wishes
     → IsStarted setting bar wish others wishes before old new left result
     → StartsOn setting wishes old new seat result
