@@ -1,0 +1,16 @@
+pub mod DealLaws
+pub mod HouseLaws
+pub mod LiveLaws
+pub mod TimesLaws
+pub mod PlayedLaws
+pub mod BlockLaws
+pub mod EndedLaws
+pub mod CloseLaws
+pub mod NothingLaws
+pub mod ToldLaws
+pub mod GoingLaws
+pub mod AloneLaws
+pub mod WorkerLaws
+pub mod EndsLaws
+pub mod LeftLaws
+pub mod RunLiveLaws

@@ -1,0 +1,11 @@
+use Rattle.lt_live.proofs.LiveLaws.{plays_itself, plays_hears, hears_plays}
+use Rattle.lt_live.proofs.alone.ask_in_house.Goals as goal
+
+pub returns-then-not-has_room-clause-plays : goal.returns-then-not-has_room-clause-plays
+returns-then-not-has_room-clause-plays g c =
+    let setting = g.Y.Yard.setting c.args.yard.now in
+    plays_hears setting _ _ _ _ _ (plays_itself setting (g.Y.Pass.Pass.view c.args.pass.now) c.args.turn.now) c.has_room.ensures.hears
+
+pub returns-clause-plays : goal.returns-clause-plays
+returns-clause-plays g c =
+    hears_plays (g.Y.Yard.setting c.args.yard.now) _ _ _ _ _ c.has_room.ensures.hears c.in_ok-ask_alone.ensures.plays
