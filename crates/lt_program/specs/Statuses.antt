@@ -17,7 +17,7 @@ use Rattle.lt_program.specs.Runs.{IsRunOf, IsTextOfRun, HasTold}
 use Rattle.lt_program.specs.Answers.{IsAnswer, IsPlayed, bytes_of, made_text, sum_text}
 use Rattle.lt_program.specs.declared.answer.Answer.{Answer}
 use Rattle.lt_words.specs.declared.command.Command.{Command}
-use Rattle.lt_words.specs.declared.command.Command.TheVariants.{Serial, Crew, Make, Sum}
+use Rattle.lt_words.specs.declared.command.Command.TheVariants.{Serial, Crew, Live, Make, Sum}
 use Rattle.lt_program.specs.declared.player.Player.{Player}
 use Rattle.lt_program.specs.declared.player.Player.TheVariants as players
 
@@ -90,6 +90,7 @@ pub record PlaysOrRefuses (left : Option (List ℕ)) (status : ℕ) : Type 0 whe
 abbrev pub HasWorked : Command → Option (List ℕ) → Option (List ℕ) → Option (List ℕ) → Option (List ℕ) → List Log → List Log → Type 0
 HasWorked Serial left rest before after untold told = Plays players.Serial left rest before after untold told
 HasWorked (Crew workers) left rest before after untold told = Plays (players.Crew workers) left rest before after untold told
+HasWorked (Live threads) left rest before after untold told = Plays (players.Live threads) left rest before after untold told
 HasWorked (Make recipe) left rest before after untold told = Appends before after (made_text recipe)
 HasWorked (Sum recipe) left rest before after untold told = Appends before after (sum_text recipe)
 
@@ -103,6 +104,7 @@ pub record Works (words : List (List ℕ)) (left rest before after : Option (Lis
 abbrev pub HasBrokenOff : Command → Option (List ℕ) → Option (List ℕ) → Option (List ℕ) → Option (List ℕ) → List Log → List Log → Type 0
 HasBrokenOff Serial left rest before after untold told = BreaksOff players.Serial left rest before after untold told
 HasBrokenOff (Crew workers) left rest before after untold told = BreaksOff (players.Crew workers) left rest before after untold told
+HasBrokenOff (Live threads) left rest before after untold told = BreaksOff (players.Live threads) left rest before after untold told
 HasBrokenOff (Make recipe) left rest before after untold told = AppendsPart before after (made_text recipe)
 HasBrokenOff (Sum recipe) left rest before after untold told = AppendsPart before after (sum_text recipe)
 

@@ -3,7 +3,7 @@ use Rattle.std.specs.Prelude.{◌⊎◌, ℕ, List}
 use Rattle.lt_words.specs.Words.{IsCommand}
 use Rattle.lt_words.specs.declared.command.Recipe.{Recipe}
 use Rattle.lt_words.specs.declared.command.Command.{Command}
-use Rattle.lt_words.specs.declared.command.Command.TheVariants.{Serial, Crew, Make, Sum}
+use Rattle.lt_words.specs.declared.command.Command.TheVariants.{Serial, Crew, Live, Make, Sum}
 use Rattle.lt_program.specs.declared.player.Player.{Player}
 use Rattle.lt_program.specs.declared.player.Player.TheVariants as players
 
@@ -11,6 +11,7 @@ use Rattle.lt_program.specs.declared.player.Player.TheVariants as players
 abbrev pub command_by : Player → Command
 command_by players.Serial = Serial
 command_by (players.Crew workers) = Crew workers
+command_by (players.Live threads) = Live threads
 
 -- they are a command that plays a trace, which it reads
 abbrev pub ArePlayers : List (List ℕ) → Type 0

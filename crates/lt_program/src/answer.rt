@@ -9,6 +9,7 @@ use lt_crew::Gate;
 use lt_trace::{TraceFault, read};
 use lt_watch::Tells;
 use std::alloc::{AllocError, Global};
+use std::sync::Wait;
 use std::thread::Threads;
 
 /// What is to be written.
@@ -22,7 +23,7 @@ pub(crate) enum Answer {
 
 /// The answer to the bytes that were read. Where they are a trace, this player plays it, and each watch is told the joins of
 /// the run.
-pub(crate) fn answer_to<R: Threads + Sync, T: Tells, G: Gate>(
+pub(crate) fn answer_to<R: Threads + Wait + Sync, T: Tells, G: Gate>(
     rt: &R,
     alloc: Global,
     player: Player,

@@ -20,6 +20,8 @@ mod tests_of_crews;
 #[cfg(test)]
 mod tests_of_gates;
 #[cfg(test)]
+mod tests_of_live;
+#[cfg(test)]
 mod tests_of_makers;
 #[cfg(test)]
 mod tests_of_tables;

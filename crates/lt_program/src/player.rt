@@ -4,11 +4,13 @@ ghost use Rattle.lt_program.specs.Runs.{MayPlay, HasPlayed, transcript_text};
 
 use lt_crew::{Gate, run_crew};
 use lt_history::print;
+use lt_live::run_live;
 use lt_manager::Manager;
 use lt_runner::{Transcript, run_serial};
 use lt_trace::Trace;
 use lt_watch::Tells;
 use std::alloc::{AllocError, Global};
+use std::sync::Wait;
 use std::thread::Threads;
 
 /// Who plays a trace.
@@ -18,10 +20,12 @@ pub(crate) enum Player {
     Serial,
     /// A crew of so many workers.
     Crew(u32),
+    /// So many threads that wait for each other.
+    Live(u32),
 }
 
 /// A run of the trace by this player. Each watch is told the joins of the run.
-fn run_of<R: Threads + Sync, T: Tells, G: Gate>(
+fn run_of<R: Threads + Wait + Sync, T: Tells, G: Gate>(
     rt: &R,
     alloc: Global,
     player: Player,
@@ -39,11 +43,14 @@ fn run_of<R: Threads + Sync, T: Tells, G: Gate>(
         Player::Crew(workers) => {
             run_crew::<R, Manager, T, G>(rt, alloc, trace, 0, workers, watch, gate)
         }
+        Player::Live(threads) => {
+            run_live::<R, Manager, T, G>(rt, alloc, trace, 0, threads, watch, gate)
+        }
     }
 }
 
 /// The text of a run of the trace by this player. Each watch is told the joins of the run.
-pub(crate) fn played_text<R: Threads + Sync, T: Tells, G: Gate>(
+pub(crate) fn played_text<R: Threads + Wait + Sync, T: Tells, G: Gate>(
     rt: &R,
     alloc: Global,
     player: Player,

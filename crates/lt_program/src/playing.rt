@@ -15,11 +15,12 @@ use lt_edge::{ReadFault, Sink, Source, put_all, read_all};
 use lt_trace::DECIDING_BYTES;
 use lt_watch::Tells;
 use std::alloc::Global;
+use std::sync::Wait;
 use std::thread::Threads;
 
 /// Reads the source to its end, has this player play what it has as a trace, tells the watches the joins, and writes the text
 /// or a refusal to the sink.
-pub(crate) fn play<R: Threads + Sync, S: Source, K: Sink, T: Tells, G: Gate>(
+pub(crate) fn play<R: Threads + Wait + Sync, S: Source, K: Sink, T: Tells, G: Gate>(
     rt: &R,
     alloc: Global,
     player: Player,

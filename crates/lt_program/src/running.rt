@@ -17,15 +17,17 @@ use lt_edge::{Sink, Source, put_all};
 use lt_watch::Tells;
 use lt_words::{Command, command_of};
 use std::alloc::{AllocError, Global};
+use std::sync::Wait;
 use std::thread::Threads;
 
 /// Does what the words ask for, and gives the status with which the program ends (see [`status`]).
 ///
-/// `serial` and `crew` read the source to its end, write the text of a run of the trace or a refusal to the sink, and tell each
+/// `serial`, `crew` and `live` read the source to its end, write the text of a run of the trace or a refusal to the sink, and tell each
 /// watch the joins of that run, once and by place. The words come first, then all is read, then it is read as a trace, then
-/// the trace is played, and at last all is written: nothing is written before all was read and played. A crew calls the gate
-/// round each line that a worker plays. `make` and `sum` write what they make, read nothing, and tell nobody.
-pub fn run<R: Threads + Sync, S: Source, K: Sink, T: Tells, G: Gate>(
+/// the trace is played, and at last all is written: nothing is written before all was read and played. A crew and threads that wait call the
+/// gate round each line that one of them plays. `live` may wait for ever, so that this call does not promise to return;
+/// `serial` and `crew` do not wait. `make` and `sum` write what they make, read nothing, and tell nobody.
+pub fn run<R: Threads + Wait + Sync, S: Source, K: Sink, T: Tells, G: Gate>(
     rt: &R,
     alloc: Global,
     words: &[String],
@@ -71,6 +73,9 @@ pub fn run<R: Threads + Sync, S: Source, K: Sink, T: Tells, G: Gate>(
         Command::Serial => play(rt, alloc, Player::Serial, source, sink, watch, gate),
         Command::Crew(workers) => {
             play(rt, alloc, Player::Crew(workers), source, sink, watch, gate)
+        }
+        Command::Live(threads) => {
+            play(rt, alloc, Player::Live(threads), source, sink, watch, gate)
         }
         Command::Make(recipe) => give(sink, made_text(alloc, &recipe)),
         Command::Sum(recipe) => give(sink, sum_text(alloc, &recipe)),

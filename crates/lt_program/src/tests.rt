@@ -4,6 +4,7 @@ use lt_crew::OpenGate;
 use lt_edge::{MemSink, MemSource};
 use lt_watch::NoWatches;
 use std::alloc::{AllocError, Global};
+use std::sync::Wait;
 use std::test::Fail;
 use std::thread::Threads;
 
@@ -41,7 +42,7 @@ fn numbers(alloc: Global, number: Option<u64>) -> Result<Vec<u64>, AllocError> {
 }
 
 /// The status and what was written, where the source's and the sink's calls of these numbers fail.
-pub(crate) fn run_failing<R: Threads + Sync>(
+pub(crate) fn run_failing<R: Threads + Wait + Sync>(
     rt: &R,
     alloc: Global,
     words: &[&str],
@@ -65,7 +66,7 @@ pub(crate) fn run_failing<R: Threads + Sync>(
 }
 
 /// The status and what was written on these lines.
-pub(crate) fn run_serial<R: Threads + Sync>(
+pub(crate) fn run_serial<R: Threads + Wait + Sync>(
     rt: &R,
     alloc: Global,
     header: &str,

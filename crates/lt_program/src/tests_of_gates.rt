@@ -1,12 +1,15 @@
-//! Crews whose workers are seen to play side by side, and to draw what they play: by tests alone, since no clause says so.
+//! Crews and threads whose workers are seen to play side by side, and to draw what they play: by tests alone, since no clause
+//! says so.
 use crate::tests::HEADER;
 use lt_crew::{Gate, run_crew};
+use lt_live::run_live;
 use lt_manager::Manager;
 use lt_runner::Transcript;
 use lt_seq::{Deed, Receipt};
 use lt_trace::read;
 use lt_watch::NoWatches;
 use std::alloc::Global;
+use std::sync::Wait;
 use std::sync::atomic::{AtomicU64, Ordering};
 use std::test::Fail;
 use std::thread::Threads;
@@ -79,7 +82,7 @@ impl Gate for MeetGate {
 }
 
 /// What two workers make of these lines at a gate.
-fn played_at<R: Threads + Sync>(
+fn played_at<R: Threads + Wait + Sync>(
     rt: &R,
     alloc: Global,
     lines: &str,
@@ -88,6 +91,27 @@ fn played_at<R: Threads + Sync>(
     let input = format!(in alloc; "{HEADER}{lines}")?;
     let trace = read(alloc, input.as_bytes())?;
     let transcript = run_crew::<R, Manager, NoWatches, MeetGate>(
+        rt,
+        alloc,
+        &trace,
+        0,
+        2,
+        &mut NoWatches,
+        gate,
+    )?;
+    Ok(transcript)
+}
+
+/// What two threads that wait for each other make of these lines at a gate.
+fn lived_at<R: Threads + Wait + Sync>(
+    rt: &R,
+    alloc: Global,
+    lines: &str,
+    gate: &MeetGate,
+) -> Result<Transcript, Fail> {
+    let input = format!(in alloc; "{HEADER}{lines}")?;
+    let trace = read(alloc, input.as_bytes())?;
+    let transcript = run_live::<R, Manager, NoWatches, MeetGate>(
         rt,
         alloc,
         &trace,
@@ -116,6 +140,18 @@ fn two_workers_play_at_one_time(rt: HostRuntime) -> Result<(), Fail> {
     assert_eq!(rt; gate.late.load(Ordering::SeqCst), 0);
     assert_eq!(rt; gate.played.load(Ordering::SeqCst), 2);
     assert!(rt; transcript.receipts.iter().any(is_a_workers_ask));
+    assert_eq!(rt; transcript.places, 4);
+    Ok(())
+}
+
+#[test]
+fn two_threads_play_at_one_time(rt: HostRuntime) -> Result<(), Fail> {
+    let alloc = rt.alloc();
+    let gate = MeetGate::new([0, 2, 1, 0]);
+    let lines = "1 try 0 \"a\" \"a\"\n2 try 0 \"b\" \"b\"\n";
+    let transcript = lived_at(&rt, alloc, lines, &gate)?;
+    assert_eq!(rt; gate.late.load(Ordering::SeqCst), 0);
+    assert_eq!(rt; gate.played.load(Ordering::SeqCst), 2);
     assert_eq!(rt; transcript.places, 4);
     Ok(())
 }

@@ -5,6 +5,7 @@ use lt_crew::OpenGate;
 use lt_edge::{NoFailSink, NoFailSource};
 use lt_watch::{ListWatch, Watchers};
 use std::alloc::Global;
+use std::sync::Wait;
 use std::test::Fail;
 use std::thread::Threads;
 
@@ -66,7 +67,7 @@ fn maker_words_must_be_in_range(rt: HostRuntime) -> Result<(), Fail> {
 }
 
 /// The status of a run between ends that never fail, and the joins that a watch of so many items was told.
-fn joins_told<R: Threads + Sync>(
+fn joins_told<R: Threads + Wait + Sync>(
     rt: &R,
     alloc: Global,
     header: &str,

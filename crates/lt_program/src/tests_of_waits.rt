@@ -5,6 +5,7 @@ use lt_crew::OpenGate;
 use lt_edge::{MemSink, MemSource};
 use lt_watch::NoWatches;
 use std::alloc::{AllocError, Global};
+use std::sync::Wait;
 use std::test::Fail;
 use std::thread::Threads;
 
@@ -355,7 +356,7 @@ fn each_end_may_fail_at_a_deadlock(rt: HostRuntime) -> Result<(), Fail> {
 }
 
 /// The status and what was written on these bytes.
-fn run_on<R: Threads + Sync>(
+fn run_on<R: Threads + Wait + Sync>(
     rt: &R,
     alloc: Global,
     input: &[u8],

@@ -11,11 +11,12 @@ use lt_crew::Gate;
 use lt_edge::{NoFailSink, NoFailSource};
 use lt_watch::Tells;
 use std::alloc::Global;
+use std::sync::Wait;
 use std::thread::Threads;
 
 /// Does what the words ask for, as [`run`] does, from a source and to a sink that never fail. Where the words are a command,
 /// and what the source has is a trace if one is wanted, the status is 0, or 6 for want of memory.
-pub fn run_unfailing<R: Threads + Sync, T: Tells, G: Gate>(
+pub fn run_unfailing<R: Threads + Wait + Sync, T: Tells, G: Gate>(
     rt: &R,
     alloc: Global,
     words: &[String],

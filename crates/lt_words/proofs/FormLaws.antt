@@ -13,17 +13,17 @@ use Rattle.clap.specs.Faults.{fault_of}
 use Rattle.lt_trace.specs.Grammar.{IsNumber}
 use Rattle.lt_trace.specs.Cut.{Lacks}
 use Rattle.lt_trace.proofs.TextLaws.{decimal_lacks}
-use Rattle.lt_words.specs.Words.{IsCommand, IsMaker, IsRecipe}
+use Rattle.lt_words.specs.Words.{AreWorkers, IsCommand, IsMaker, IsRecipe}
 use Rattle.lt_words.specs.Grammar.{grammar}
-use Rattle.lt_words.specs.Reading.{AreGiven, IsGiven, IsPlain, IsRead, Reads}
+use Rattle.lt_words.specs.Reading.{AreGiven, AreWorkersGiven, IsGiven, IsPlain, IsRead, Reads}
 use Rattle.lt_words.specs.declared.command.Recipe.{Recipe}
 use Rattle.lt_words.specs.declared.command.Command.{Command}
-use Rattle.lt_words.specs.declared.command.Command.TheVariants.{Serial, Crew, Make, Sum}
+use Rattle.lt_words.specs.declared.command.Command.TheVariants.{Serial, Crew, Live, Make, Sum}
 use Rattle.lt_words.proofs.ReadingLaws.{differ}
-use Rattle.lt_words.proofs.Taking.{finds_crew, finds_make, finds_serial, finds_sum, given, three_given}
-use Rattle.lt_words.proofs.Taking.{takes_crew, takes_make, takes_serial, takes_sum, no_word, unknown_word}
-use Rattle.lt_words.proofs.Taking.{crew_alone, make_alone, make_with_one, make_with_two, sum_alone, sum_with_one, sum_with_two}
-use Rattle.lt_words.proofs.Refusing.{crew_with_more, make_with_more, serial_with_more, sum_with_more}
+use Rattle.lt_words.proofs.Taking.{finds_crew, finds_live, finds_make, finds_serial, finds_sum, given, three_given}
+use Rattle.lt_words.proofs.Taking.{takes_crew, takes_live, takes_make, takes_serial, takes_sum, no_word, unknown_word}
+use Rattle.lt_words.proofs.Taking.{crew_alone, live_alone, make_alone, make_with_one, make_with_two, sum_alone, sum_with_one, sum_with_two}
+use Rattle.lt_words.proofs.Refusing.{crew_with_more, live_with_more, make_with_more, serial_with_more, sum_with_more}
 
 -- no word is empty or begins with `-`
 abbrev pub ArePlain : List Text → Type 0
@@ -33,6 +33,7 @@ ArePlain words = AllByRecursion IsPlain words
 data Form : List Text → Type 0 where
   serial : Form (codes "serial" ∷ [])
   crew : (w : Text) → IsPlain w → Form (codes "crew" ∷ w ∷ [])
+  live : (w : Text) → IsPlain w → Form (codes "live" ∷ w ∷ [])
   make : (a b c : Text) → IsPlain a → IsPlain b → IsPlain c → Form (codes "make" ∷ a ∷ b ∷ c ∷ [])
   sum : (a b c : Text) → IsPlain a → IsPlain b → IsPlain c → Form (codes "sum" ∷ a ∷ b ∷ c ∷ [])
 
@@ -47,12 +48,22 @@ serial_form [] p e = serial
 serial_form ([] ∷ ws) p e = absurd p.0
 serial_form ((x ∷ xs) ∷ ws) p e = absurd (never _ (serial_with_more x xs ws p.0) e)
 
+-- a name that is refused alone, and with more than one word, but not with one
+workers_form : (name : Text) → is_empty (fault_of grammar (name ∷ [])) ≡ false
+    → ((x y : ℕ) (xs ys : List ℕ) (ws : List Text) → (x == 45) ≡ false → (y == 45) ≡ false
+    → is_empty (fault_of grammar (name ∷ (x ∷ xs) ∷ (y ∷ ys) ∷ ws)) ≡ false)
+    → ((w : Text) → IsPlain w → Form (name ∷ w ∷ [])) → (ws : List Text) → ArePlain ws → Passes (name ∷ ws) → Form (name ∷ ws)
+workers_form name alone more one [] p e = absurd (never _ alone e)
+workers_form name alone more one (w ∷ []) p e = one w p.0
+workers_form name alone more one ([] ∷ v ∷ ws) p e = absurd p.0
+workers_form name alone more one ((x ∷ xs) ∷ [] ∷ ws) p e = absurd p.1.0
+workers_form name alone more one ((x ∷ xs) ∷ (y ∷ ys) ∷ ws) p e = absurd (never _ (more x y xs ys ws p.0 p.1.0) e)
+
 crew_form : (ws : List Text) → ArePlain ws → Passes (codes "crew" ∷ ws) → Form (codes "crew" ∷ ws)
-crew_form [] p e = absurd (never _ crew_alone e)
-crew_form (w ∷ []) p e = crew w p.0
-crew_form ([] ∷ v ∷ ws) p e = absurd p.0
-crew_form ((x ∷ xs) ∷ [] ∷ ws) p e = absurd p.1.0
-crew_form ((x ∷ xs) ∷ (y ∷ ys) ∷ ws) p e = absurd (never _ (crew_with_more x y xs ys ws p.0 p.1.0) e)
+crew_form ws p e = workers_form (codes "crew") crew_alone crew_with_more crew ws p e
+
+live_form : (ws : List Text) → ArePlain ws → Passes (codes "live" ∷ ws) → Form (codes "live" ∷ ws)
+live_form ws p e = workers_form (codes "live") live_alone live_with_more live ws p e
 
 make_form : (ws : List Text) → ArePlain ws → Passes (codes "make" ∷ ws) → Form (codes "make" ∷ ws)
 make_form [] p e = absurd (never _ make_alone e)
@@ -97,11 +108,13 @@ form_taken ([] ∷ ws) p e = absurd p.0
 form_taken ((x ∷ xs) ∷ ws) p e =
     ⊎_elim (λ is. renamed (codes "serial") (x ∷ xs) ws is (serial_form ws p.1) e)
     (λ no_serial. ⊎_elim (λ is. renamed (codes "crew") (x ∷ xs) ws is (crew_form ws p.1) e)
-    (λ no_crew. ⊎_elim (λ is. renamed (codes "make") (x ∷ xs) ws is (make_form ws p.1) e)
+    (λ no_crew. ⊎_elim (λ is. renamed (codes "live") (x ∷ xs) ws is (live_form ws p.1) e)
+    (λ no_live. ⊎_elim (λ is. renamed (codes "make") (x ∷ xs) ws is (make_form ws p.1) e)
     (λ no_make. ⊎_elim (λ is. renamed (codes "sum") (x ∷ xs) ws is (sum_form ws p.1) e)
-    (λ no_sum. absurd (never _ (unknown_word x xs ws p.0 no_serial no_crew no_make no_sum) e))
+    (λ no_sum. absurd (never _ (unknown_word x xs ws p.0 no_serial no_crew no_live no_make no_sum) e))
     (named (codes "sum") (x ∷ xs)))
     (named (codes "make") (x ∷ xs)))
+    (named (codes "live") (x ∷ xs)))
     (named (codes "crew") (x ∷ xs)))
     (named (codes "serial") (x ∷ xs))
 
@@ -114,6 +127,11 @@ number_of rows name w least most n is g =
     let found = g.found in
     let same : g.text ≡ w = cc in
     subst (λ t. IsNumber t least most n) same g.number
+
+workers_of : (w : Text) (n : ℕ) → AreWorkersGiven (given (codes "N") w ∷ []) n → (name : Text) → AreWorkers name (name ∷ w ∷ []) n
+workers_of w n g name =
+    let is = number_of (given (codes "N") w ∷ []) (codes "N") w _ _ _ refl g in
+    record { words_are = λ i. name ∷ is.spelled i ∷ []; some_workers = is.from; few_workers = is.up_to }
 
 recipe_of : (a b c : Text) (recipe : Recipe) → AreGiven (three_given a b c) recipe
     → (name : Text) → IsMaker name (name ∷ a ∷ b ∷ c ∷ []) recipe
@@ -135,21 +153,29 @@ recipe_of a b c recipe g name =
 serial_read : (c : Command) → Reads (codes "serial") [] c → IsCommand (codes "serial" ∷ []) c
 serial_read Serial r = refl
 serial_read (Crew n) r = absurd (differ (codes "serial") (codes "crew") refl r.0)
+serial_read (Live n) r = absurd (differ (codes "serial") (codes "live") refl r.0)
 serial_read (Make recipe) r = absurd (differ (codes "serial") (codes "make") refl r.0)
 serial_read (Sum recipe) r = absurd (differ (codes "serial") (codes "sum") refl r.0)
 
 crew_read : (w : Text) (c : Command) → Reads (codes "crew") (given (codes "N") w ∷ []) c → IsCommand (codes "crew" ∷ w ∷ []) c
 crew_read w Serial r = absurd (differ (codes "crew") (codes "serial") refl r)
-crew_read w (Crew n) r =
-    let is = number_of (given (codes "N") w ∷ []) (codes "N") w _ _ _ refl r.1 in
-    record { words_are = λ i. codes "crew" ∷ is.spelled i ∷ []; some_workers = is.from; few_workers = is.up_to }
+crew_read w (Crew n) r = workers_of w n r.1 (codes "crew")
+crew_read w (Live n) r = absurd (differ (codes "crew") (codes "live") refl r.0)
 crew_read w (Make recipe) r = absurd (differ (codes "crew") (codes "make") refl r.0)
 crew_read w (Sum recipe) r = absurd (differ (codes "crew") (codes "sum") refl r.0)
+
+live_read : (w : Text) (c : Command) → Reads (codes "live") (given (codes "N") w ∷ []) c → IsCommand (codes "live" ∷ w ∷ []) c
+live_read w Serial r = absurd (differ (codes "live") (codes "serial") refl r)
+live_read w (Crew n) r = absurd (differ (codes "live") (codes "crew") refl r.0)
+live_read w (Live n) r = workers_of w n r.1 (codes "live")
+live_read w (Make recipe) r = absurd (differ (codes "live") (codes "make") refl r.0)
+live_read w (Sum recipe) r = absurd (differ (codes "live") (codes "sum") refl r.0)
 
 make_read : (a b c : Text) (command : Command) → Reads (codes "make") (three_given a b c) command
     → IsCommand (codes "make" ∷ a ∷ b ∷ c ∷ []) command
 make_read a b c Serial r = absurd (differ (codes "make") (codes "serial") refl r)
 make_read a b c (Crew n) r = absurd (differ (codes "make") (codes "crew") refl r.0)
+make_read a b c (Live n) r = absurd (differ (codes "make") (codes "live") refl r.0)
 make_read a b c (Make recipe) r = recipe_of a b c recipe r.1 (codes "make")
 make_read a b c (Sum recipe) r = absurd (differ (codes "make") (codes "sum") refl r.0)
 
@@ -157,6 +183,7 @@ sum_read : (a b c : Text) (command : Command) → Reads (codes "sum") (three_giv
     → IsCommand (codes "sum" ∷ a ∷ b ∷ c ∷ []) command
 sum_read a b c Serial r = absurd (differ (codes "sum") (codes "serial") refl r)
 sum_read a b c (Crew n) r = absurd (differ (codes "sum") (codes "crew") refl r.0)
+sum_read a b c (Live n) r = absurd (differ (codes "sum") (codes "live") refl r.0)
 sum_read a b c (Make recipe) r = absurd (differ (codes "sum") (codes "make") refl r.0)
 sum_read a b c (Sum recipe) r = recipe_of a b c recipe r.1 (codes "sum")
 
@@ -172,6 +199,7 @@ reads_it form name rows c is r =
 read_of_form : (ws : List Text) → Form ws → (c : Command) → IsRead (subcommand_of grammar ws) c → IsCommand ws c
 read_of_form _ serial c r = serial_read c (reads_it _ _ _ c finds_serial r)
 read_of_form _ (crew w p) c r = crew_read w c (reads_it _ _ _ c (finds_crew w p) r)
+read_of_form _ (live w p) c r = live_read w c (reads_it _ _ _ c (finds_live w p) r)
 read_of_form _ (make a b d p q s) c r = make_read a b d c (reads_it _ _ _ c (finds_make a b d p q s) r)
 read_of_form _ (sum a b d p q s) c r = sum_read a b d c (reads_it _ _ _ c (finds_sum a b d p q s) r)
 
@@ -220,6 +248,9 @@ serial_answers = record {
   reads = record { name = codes "serial"; rows = []; met = finds_serial; read = refl };
 }
 
+given_workers : (n : ℕ) → 1 ≤ n → n ≤ 16 → AreWorkersGiven (given (codes "N") (decimal n) ∷ []) n
+given_workers n from up_to = given_number (given (codes "N") (decimal n) ∷ []) (codes "N") 1 16 n refl from up_to
+
 crew_answers : (n : ℕ) → 1 ≤ n → n ≤ 16 → Answers (codes "crew" ∷ decimal n ∷ []) (Crew n)
 crew_answers n from up_to =
     let p = plain_number n (omega (arith, up_to)) in
@@ -230,7 +261,21 @@ crew_answers n from up_to =
         name = codes "crew";
         rows = given (codes "N") (decimal n) ∷ [];
         met = finds_crew (decimal n) p;
-        read = (refl, given_number (given (codes "N") (decimal n) ∷ []) (codes "N") 1 16 n refl from up_to);
+        read = (refl, given_workers n from up_to);
+      };
+    }
+
+live_answers : (n : ℕ) → 1 ≤ n → n ≤ 16 → Answers (codes "live" ∷ decimal n ∷ []) (Live n)
+live_answers n from up_to =
+    let p = plain_number n (omega (arith, up_to)) in
+    record {
+      plain = (refl, (p, tt));
+      takes_them = takes_live (decimal n) p;
+      reads = record {
+        name = codes "live";
+        rows = given (codes "N") (decimal n) ∷ [];
+        met = finds_live (decimal n) p;
+        read = (refl, given_workers n from up_to);
       };
     }
 
@@ -269,5 +314,6 @@ sum_answers r is =
 pub command_answers : (ws : List Text) (c : Command) → IsCommand ws c → Answers ws c
 command_answers ws Serial is = subst (λ v. Answers v Serial) (sym is) serial_answers
 command_answers ws (Crew n) is = subst (λ v. Answers v (Crew n)) (sym is.words_are) (crew_answers n is.some_workers is.few_workers)
+command_answers ws (Live n) is = subst (λ v. Answers v (Live n)) (sym is.words_are) (live_answers n is.some_workers is.few_workers)
 command_answers ws (Make r) is = subst (λ v. Answers v (Make r)) (sym is.words_are) (make_answers r is.ranges)
 command_answers ws (Sum r) is = subst (λ v. Answers v (Sum r)) (sym is.words_are) (sum_answers r is.ranges)

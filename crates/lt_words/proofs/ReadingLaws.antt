@@ -8,10 +8,10 @@ use Rattle.clap.specs.Matches.{first_value}
 use Rattle.clap.specs.declared.parser.matches.Found.{Found}
 use Rattle.clap.proofs.WalkLemmas.{first_value-rows}
 use Rattle.lt_trace.specs.Grammar.{IsNumber}
-use Rattle.lt_words.specs.Reading.{IsGiven, AreGiven, Reads}
+use Rattle.lt_words.specs.Reading.{IsGiven, AreWorkersGiven, AreGiven, Reads}
 use Rattle.lt_words.specs.declared.command.Recipe.{Recipe}
 use Rattle.lt_words.specs.declared.command.Command.{Command}
-use Rattle.lt_words.specs.declared.command.Command.TheVariants.{Serial, Crew, Make, Sum}
+use Rattle.lt_words.specs.declared.command.Command.TheVariants.{Serial, Crew, Live, Make, Sum}
 
 pub if_none : {X : Type 0} (r : Option X) {P : Type 0} → P → IfNone r P
 if_none None p = p
@@ -46,6 +46,11 @@ pub no_number_so : (r : Option ℕ) (f : Found) (name text : Text) (least most :
     → (IsNone r → (n : ℕ) → IsNumber text least most n → ⊥) → IsNone r → (n : ℕ) → IsGiven (rows_of f) name least most n → ⊥
 no_number_so r f name text least most some none is n given = none is n (number_given f name text least most n some given)
 
+-- where the number of workers is not given, there is none
+pub no_workers : (rows : List Row) (most : ℕ) → most ≡ 16 → ((n : ℕ) → IsGiven rows (codes "N") 1 most n → ⊥) → (n : ℕ)
+    → AreWorkersGiven rows n → ⊥
+no_workers rows most is none n given = none n (subst (λ m. IsGiven rows (codes "N") 1 m n) (sym is) given)
+
 -- where one of the numbers is not given, they are not all
 
 pub no_seed : (rows : List Row) → ((n : ℕ) → IsGiven rows (codes "SEED") 0 (2 ^ 64 - 1) n → ⊥) → (recipe : Recipe)
@@ -62,17 +67,27 @@ no_lines rows most is none recipe given =
 
 -- where a form's numbers are not given, it is no command
 
-pub no_crew : (name : Text) (rows : List Row) → name ≡ codes "crew" → ((n : ℕ) → IsGiven rows (codes "N") 1 16 n → ⊥)
+pub no_crew : (name : Text) (rows : List Row) → name ≡ codes "crew" → ((n : ℕ) → AreWorkersGiven rows n → ⊥)
     → (command : Command) → Reads name rows command → ⊥
 no_crew name rows is none Serial r = differ (codes "crew") (codes "serial") refl (sym is ∙ r)
 no_crew name rows is none (Crew n) r = none n r.1
+no_crew name rows is none (Live n) r = differ (codes "crew") (codes "live") refl (sym is ∙ r.0)
 no_crew name rows is none (Make recipe) r = differ (codes "crew") (codes "make") refl (sym is ∙ r.0)
 no_crew name rows is none (Sum recipe) r = differ (codes "crew") (codes "sum") refl (sym is ∙ r.0)
+
+pub no_live : (name : Text) (rows : List Row) → name ≡ codes "live" → ((n : ℕ) → AreWorkersGiven rows n → ⊥)
+    → (command : Command) → Reads name rows command → ⊥
+no_live name rows is none Serial r = differ (codes "live") (codes "serial") refl (sym is ∙ r)
+no_live name rows is none (Crew n) r = differ (codes "live") (codes "crew") refl (sym is ∙ r.0)
+no_live name rows is none (Live n) r = none n r.1
+no_live name rows is none (Make recipe) r = differ (codes "live") (codes "make") refl (sym is ∙ r.0)
+no_live name rows is none (Sum recipe) r = differ (codes "live") (codes "sum") refl (sym is ∙ r.0)
 
 pub no_make : (name : Text) (rows : List Row) → name ≡ codes "make" → ((recipe : Recipe) → AreGiven rows recipe → ⊥)
     → (command : Command) → Reads name rows command → ⊥
 no_make name rows is none Serial r = differ (codes "make") (codes "serial") refl (sym is ∙ r)
 no_make name rows is none (Crew n) r = differ (codes "make") (codes "crew") refl (sym is ∙ r.0)
+no_make name rows is none (Live n) r = differ (codes "make") (codes "live") refl (sym is ∙ r.0)
 no_make name rows is none (Make recipe) r = none recipe r.1
 no_make name rows is none (Sum recipe) r = differ (codes "make") (codes "sum") refl (sym is ∙ r.0)
 
@@ -80,5 +95,6 @@ pub no_sum : (name : Text) (rows : List Row) → name ≡ codes "sum" → ((reci
     → (command : Command) → Reads name rows command → ⊥
 no_sum name rows is none Serial r = differ (codes "sum") (codes "serial") refl (sym is ∙ r)
 no_sum name rows is none (Crew n) r = differ (codes "sum") (codes "crew") refl (sym is ∙ r.0)
+no_sum name rows is none (Live n) r = differ (codes "sum") (codes "live") refl (sym is ∙ r.0)
 no_sum name rows is none (Make recipe) r = differ (codes "sum") (codes "make") refl (sym is ∙ r.0)
 no_sum name rows is none (Sum recipe) r = none recipe r.1

@@ -53,6 +53,11 @@ pub crew_with_more : (x y : ℕ) (xs ys : List ℕ) (ws : List Text) → (x == 4
 unfolding clap_on_literals
 crew_with_more x y xs ys ws e f = refused_by_form (codes "crew") ((x ∷ xs) ∷ (y ∷ ys) ∷ ws) refl refl (simp (e, f))
 
+pub live_with_more : (x y : ℕ) (xs ys : List ℕ) (ws : List Text) → (x == 45) ≡ false → (y == 45) ≡ false
+    → is_empty (fault_of grammar (codes "live" ∷ (x ∷ xs) ∷ (y ∷ ys) ∷ ws)) ≡ false
+unfolding clap_on_literals
+live_with_more x y xs ys ws e f = refused_by_form (codes "live") ((x ∷ xs) ∷ (y ∷ ys) ∷ ws) refl refl (simp (e, f))
+
 pub make_with_more : (x y z u : ℕ) (xs ys zs us : List ℕ) (ws : List Text) → (x == 45) ≡ false → (y == 45) ≡ false → (z == 45) ≡ false
     → (u == 45) ≡ false
     → is_empty (fault_of grammar (codes "make" ∷ (x ∷ xs) ∷ (y ∷ ys) ∷ (z ∷ zs) ∷ (u ∷ us) ∷ ws)) ≡ false

@@ -28,6 +28,11 @@ unfolding clap_on_literals
 takes_crew [] p = absurd p
 takes_crew (x ∷ xs) p = simp p
 
+pub takes_live : (w : Text) → IsPlain w → takes grammar (codes "live" ∷ w ∷ []) ≡ true
+unfolding clap_on_literals
+takes_live [] p = absurd p
+takes_live (x ∷ xs) p = simp p
+
 pub takes_make : (a b c : Text) → IsPlain a → IsPlain b → IsPlain c → takes grammar (codes "make" ∷ a ∷ b ∷ c ∷ []) ≡ true
 unfolding clap_on_literals
 takes_make [] b c p q r = absurd p
@@ -58,6 +63,11 @@ unfolding clap_on_literals
 finds_crew [] p = absurd p
 finds_crew (x ∷ xs) p = simp p
 
+pub finds_live : (w : Text) → IsPlain w → subcommand_of grammar (codes "live" ∷ w ∷ []) ≡ Some (codes "live", given (codes "N") w ∷ [])
+unfolding clap_on_literals
+finds_live [] p = absurd p
+finds_live (x ∷ xs) p = simp p
+
 pub finds_make : (a b c : Text) → IsPlain a → IsPlain b → IsPlain c
     → subcommand_of grammar (codes "make" ∷ a ∷ b ∷ c ∷ []) ≡ Some (codes "make", three_given a b c)
 unfolding clap_on_literals
@@ -82,14 +92,18 @@ no_word = refl
 
 pub unknown_word : (x : ℕ) (xs : List ℕ) (ws : List Text) → (x == 45) ≡ false
     → bytes_eq (codes "serial") (x ∷ xs) ≡ false → bytes_eq (codes "crew") (x ∷ xs) ≡ false
-    → bytes_eq (codes "make") (x ∷ xs) ≡ false → bytes_eq (codes "sum") (x ∷ xs) ≡ false
+    → bytes_eq (codes "live") (x ∷ xs) ≡ false → bytes_eq (codes "make") (x ∷ xs) ≡ false → bytes_eq (codes "sum") (x ∷ xs) ≡ false
     → is_empty (fault_of grammar ((x ∷ xs) ∷ ws)) ≡ false
 unfolding clap_on_literals
-unknown_word x xs ws e s c m u = simp (s, c, m, u, e)
+unknown_word x xs ws e s c l m u = simp (s, c, l, m, u, e)
 
 pub crew_alone : is_empty (fault_of grammar (codes "crew" ∷ [])) ≡ false
 unfolding clap_on_literals
 crew_alone = refl
+
+pub live_alone : is_empty (fault_of grammar (codes "live" ∷ [])) ≡ false
+unfolding clap_on_literals
+live_alone = refl
 
 pub make_alone : is_empty (fault_of grammar (codes "make" ∷ [])) ≡ false
 unfolding clap_on_literals

@@ -19,9 +19,9 @@ value id = record (new_rule id) { required = true }
 abbrev pub serial_form : App
 serial_form = bare (codes "serial")
 
--- `crew N`
-abbrev pub crew_form : App
-crew_form = with_rule (bare (codes "crew")) (value (codes "N"))
+-- a name, and a number of workers
+abbrev pub workers_form : Text → App
+workers_form name = with_rule (bare name) (value (codes "N"))
 
 -- a name, and the numbers of which a trace is made
 abbrev pub maker_form : Text → App
@@ -33,5 +33,5 @@ program = record { top = record (bare_shape (codes "rangelock")) { no_binary_nam
 
 -- the program with its forms
 abbrev pub grammar : App
-grammar = with_subcommand (with_subcommand (with_subcommand (with_subcommand program serial_form.top) crew_form.top)
-    (maker_form (codes "make")).top) (maker_form (codes "sum")).top
+grammar = with_subcommand (with_subcommand (with_subcommand (with_subcommand (with_subcommand program serial_form.top)
+    (workers_form (codes "crew")).top) (workers_form (codes "live")).top) (maker_form (codes "make")).top) (maker_form (codes "sum")).top

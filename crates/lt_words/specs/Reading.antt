@@ -4,7 +4,7 @@ use Rattle.clap.specs.Walk.{Row, Text, first_of}
 use Rattle.lt_trace.specs.Grammar.{IsNumber}
 use Rattle.lt_words.specs.declared.command.Recipe.{Recipe}
 use Rattle.lt_words.specs.declared.command.Command.{Command}
-use Rattle.lt_words.specs.declared.command.Command.TheVariants.{Serial, Crew, Make, Sum}
+use Rattle.lt_words.specs.declared.command.Command.TheVariants.{Serial, Crew, Live, Make, Sum}
 
 -- the word is not empty, and does not begin with `-`
 abbrev pub IsPlain : Text → Type 0
@@ -23,10 +23,15 @@ pub record AreGiven (rows : List Row) (recipe : Recipe) : Type 0 where
   pub txns_are : IsGiven rows (codes "TXNS") 1 1024 recipe.txns
   pub lines_are : IsGiven rows (codes "LINES") 1 64512 recipe.lines
 
+-- the value spells this number of workers
+abbrev pub AreWorkersGiven : List Row → ℕ → Type 0
+AreWorkersGiven rows workers = IsGiven rows (codes "N") 1 16 workers
+
 -- the form of this name, with these values, is the command
 abbrev pub Reads : Text → List Row → Command → Type 0
 Reads name rows Serial = name ≡ codes "serial"
-Reads name rows (Crew workers) = (name ≡ codes "crew") × IsGiven rows (codes "N") 1 16 workers
+Reads name rows (Crew workers) = (name ≡ codes "crew") × AreWorkersGiven rows workers
+Reads name rows (Live workers) = (name ≡ codes "live") × AreWorkersGiven rows workers
 Reads name rows (Make recipe) = (name ≡ codes "make") × AreGiven rows recipe
 Reads name rows (Sum recipe) = (name ≡ codes "sum") × AreGiven rows recipe
 

@@ -3,7 +3,7 @@ use Rattle.std.specs.Prelude.{◌≡◌, ℕ, ◌<◌, ◌≤◌, ◌^◌, ◌-�
 use Rattle.lt_trace.specs.Grammar.{IsNumber}
 use Rattle.lt_words.specs.declared.command.Recipe.{Recipe}
 use Rattle.lt_words.specs.declared.command.Command.{Command}
-use Rattle.lt_words.specs.declared.command.Command.TheVariants.{Serial, Crew, Make, Sum}
+use Rattle.lt_words.specs.declared.command.Command.TheVariants.{Serial, Crew, Live, Make, Sum}
 
 -- the numbers are in the ranges of the generator
 pub record IsRecipe (recipe : Recipe) : Type 0 where
@@ -24,16 +24,17 @@ pub record IsMaker (word : List ℕ) (words : List (List ℕ)) (recipe : Recipe)
   pub words_are : words ≡ word ∷ decimal recipe.seed ∷ decimal recipe.txns ∷ decimal recipe.lines ∷ []
   pub ranges : IsRecipe recipe
 
--- the words are `crew` and this number of workers
-pub record AreCrew (words : List (List ℕ)) (workers : ℕ) : Type 0 where
-  pub words_are : words ≡ codes "crew" ∷ decimal workers ∷ []
+-- the words are this one and this number of workers
+pub record AreWorkers (word : List ℕ) (words : List (List ℕ)) (workers : ℕ) : Type 0 where
+  pub words_are : words ≡ word ∷ decimal workers ∷ []
   pub some_workers : 1 ≤ workers
   pub few_workers : workers ≤ 16
 
 -- the words are this command's form
 abbrev pub IsCommand : List (List ℕ) → Command → Type 0
 IsCommand words Serial = words ≡ codes "serial" ∷ []
-IsCommand words (Crew workers) = AreCrew words workers
+IsCommand words (Crew workers) = AreWorkers (codes "crew") words workers
+IsCommand words (Live workers) = AreWorkers (codes "live") words workers
 IsCommand words (Make recipe) = IsMaker (codes "make") words recipe
 IsCommand words (Sum recipe) = IsMaker (codes "sum") words recipe
 

@@ -13,7 +13,7 @@ pub(crate) fn by_hand(words: &[String]) -> Option<Command>
 {
     match words {
         [word] => single(word.as_str()),
-        [word, workers] => crew(word.as_str(), workers.as_bytes()),
+        [word, workers] => with_workers(word.as_str(), workers.as_bytes()),
         [word, seed, txns, lines] => maker(
             word.as_str(),
             seed.as_bytes(),
@@ -36,14 +36,16 @@ fn single(word: &str) -> Option<Command>
     }
 }
 
-/// The command of a word and one number.
-fn crew(word: &str, workers: &[u8]) -> Option<Command>
+/// The command of a word and a number of workers.
+fn with_workers(word: &str, workers: &[u8]) -> Option<Command>
     ensures some { IfSome result (IsCommand (word.now ∷ workers.now ∷ [])) }
     ensures none { IfNone result (IsNoCommand (word.now ∷ workers.now ∷ [])) }
 {
-    let workers = number(workers, 1, MOST_WORKERS)?;
+    let workers = number(workers, 1, MOST_WORKERS)? as u32;
     if word == "crew" {
-        Some(Command::Crew(workers as u32))
+        Some(Command::Crew(workers))
+    } else if word == "live" {
+        Some(Command::Live(workers))
     } else {
         None
     }

@@ -1,6 +1,6 @@
 //! What the words ask for.
 
-/// The most workers of a crew.
+/// The most workers of a crew, and the most threads of a live run.
 pub(crate) const MOST_WORKERS: u64 = 16;
 
 /// The numbers that a trace is made of.
@@ -21,6 +21,8 @@ pub enum Command {
     Serial,
     /// `crew N`: play the trace that is read by a crew of so many workers, 1 to 16.
     Crew(u32),
+    /// `live N`: play the trace that is read by so many threads that wait for each other, 1 to 16.
+    Live(u32),
     /// `make SEED TXNS LINES`: make a trace.
     Make(Recipe),
     /// `sum SEED TXNS LINES`: play that trace, and tell the run in one line of numbers.

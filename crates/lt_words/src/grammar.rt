@@ -3,7 +3,7 @@ ghost use Rattle.std.specs.Prelude.{◌≡◌, IfOk, false};
 ghost use Rattle.clap.specs.Simple.{app_of};
 ghost use Rattle.clap.specs.Walk.{rule_of};
 ghost use Rattle.clap.specs.declared.builder.command.Command.TheViews.{out-Command};
-ghost use Rattle.lt_words.specs.Grammar.{bare, value, crew_form, maker_form, grammar};
+ghost use Rattle.lt_words.specs.Grammar.{bare, value, workers_form, maker_form, grammar};
 
 use clap::{Arg, Command};
 use std::alloc::{AllocError, Global};
@@ -27,12 +27,12 @@ fn value<'a>(alloc: Global, id: &'a str) -> Arg<'a>
     Arg::new(alloc, id).required(true)
 }
 
-/// `crew N`.
-fn crew_form<'a>(alloc: Global) -> Result<Command<'a>, AllocError>
-    ensures app { IfOk result (λ form. app_of form ≡ crew_form) }
+/// A command of this name with a number of workers.
+fn workers_form<'a>(alloc: Global, name: &'a str) -> Result<Command<'a>, AllocError>
+    ensures app { IfOk result (λ form. app_of form ≡ workers_form name.entry.now) }
     ensures local { IfOk result (λ form. (out-Command form).has_globals ≡ false) }
 {
-    bare(alloc, "crew").arg(value(alloc, "N"))
+    bare(alloc, name).arg(value(alloc, "N"))
 }
 
 /// A command of this name with the numbers of which a trace is made.
@@ -54,7 +54,8 @@ pub(crate) fn grammar<'a>(alloc: Global) -> Result<Command<'a>, AllocError>
         .no_binary_name(true)
         .subcommand_required(true)
         .subcommand(bare(alloc, "serial"))?
-        .subcommand(crew_form(alloc)?)?
+        .subcommand(workers_form(alloc, "crew")?)?
+        .subcommand(workers_form(alloc, "live")?)?
         .subcommand(maker_form(alloc, "make")?)?
         .subcommand(maker_form(alloc, "sum")?)
 }

@@ -3,7 +3,7 @@ ghost use Rattle.std.specs.Prelude.{ℕ, IfSome, IfNone};
 ghost use Rattle.clap.specs.Walk.{rows_of};
 ghost use Rattle.clap.specs.Matches.{found_of};
 ghost use Rattle.clap.specs.Simple.{subcommand_rows_of};
-ghost use Rattle.lt_words.specs.Reading.{IsGiven, AreGiven, Reads, IsRead};
+ghost use Rattle.lt_words.specs.Reading.{IsGiven, AreWorkersGiven, AreGiven, Reads, IsRead};
 ghost use Rattle.lt_words.specs.declared.command.Recipe.{Recipe};
 ghost use Rattle.lt_words.specs.declared.command.Command.{Command};
 
@@ -17,6 +17,14 @@ fn number_in(values: &ArgMatches<'_>, name: &str, least: u64, most: u64) -> Opti
     ensures none { IfNone result ((n : ℕ) → ¬ IsGiven (rows_of (found_of values.now)) name.now least most n) }
 {
     number(values.get_str(name)?.as_bytes(), least, most)
+}
+
+/// The number of workers that the value is, if it is one.
+fn workers_in(values: &ArgMatches<'_>) -> Option<u32>
+    ensures some { IfSome result (AreWorkersGiven (rows_of (found_of values.now))) }
+    ensures none { IfNone result ((workers : ℕ) → ¬ AreWorkersGiven (rows_of (found_of values.now)) workers) }
+{
+    Some(number_in(values, "N", 1, MOST_WORKERS)? as u32)
 }
 
 /// The numbers that the values are, if they are ones of which a trace can be made.
@@ -41,7 +49,8 @@ fn form_of(name: &str, values: &ArgMatches<'_>) -> Option<Command>
 {
     match name {
         "serial" => Some(Command::Serial),
-        "crew" => Some(Command::Crew(number_in(values, "N", 1, MOST_WORKERS)? as u32)),
+        "crew" => Some(Command::Crew(workers_in(values)?)),
+        "live" => Some(Command::Live(workers_in(values)?)),
         "make" => Some(Command::Make(recipe_in(values)?)),
         "sum" => Some(Command::Sum(recipe_in(values)?)),
         _ => None,

@@ -25,10 +25,12 @@ const MOST: Recipe = Recipe {
 };
 
 /// Each form with the least and the most numbers.
-const FORMS: [(&[&str], Command); 7] = [
+const FORMS: [(&[&str], Command); 9] = [
     (&["serial"], Command::Serial),
     (&["crew", "1"], Command::Crew(1)),
     (&["crew", "16"], Command::Crew(16)),
+    (&["live", "1"], Command::Live(1)),
+    (&["live", "16"], Command::Live(16)),
     (&["make", "0", "1", "1"], Command::Make(LEAST)),
     (
         &["make", "18446744073709551615", "1024", "64512"],
@@ -52,7 +54,7 @@ fn each_form_is_read(rt: HostRuntime) -> Result<(), Fail> {
 
 /// Words that are no command: empty ones, ones that begin with `-`, stray ones, too few, a number that is written otherwise or
 /// out of its range, and what asks for help.
-const NO_COMMAND: [&[&str]; 18] = [
+const NO_COMMAND: [&[&str]; 24] = [
     &[],
     &[""],
     &["-x"],
@@ -65,6 +67,12 @@ const NO_COMMAND: [&[&str]; 18] = [
     &["crew", "04"],
     &["crew", "17"],
     &["crew", "4", "4"],
+    &["live"],
+    &["live", "0"],
+    &["live", "17"],
+    &["live", "04"],
+    &["live", "-1"],
+    &["live", "4", "4"],
     &["make", "0", "1"],
     &["make", "18446744073709551616", "1", "1"],
     &["sum", "0", "1", "1", "1"],

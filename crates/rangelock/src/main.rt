@@ -1,5 +1,5 @@
-//! `rangelock serial` plays the trace on standard input and writes its transcript to standard output, and so does
-//! `rangelock crew` by so many threads. `rangelock make` and `rangelock sum` make a trace of three numbers, and write it or the
+//! `rangelock serial` plays the trace on standard input and writes its transcript to standard output, and so do
+//! `rangelock crew` and `rangelock live` by so many threads. `rangelock make` and `rangelock sum` make a trace of three numbers, and write it or the
 //! numbers of its run.
 #![tactic(auto)]
 
@@ -45,7 +45,7 @@ fn main(rt: HostRuntime) -> ExitCode {
     if status == status::USAGE {
         // Where standard error fails too, the status alone has to tell.
         let _ = eprintln!(rt;
-            "usage: rangelock serial | crew N | make SEED TXNS LINES | sum SEED TXNS LINES"
+            "usage: rangelock serial | crew N | live N | make SEED TXNS LINES | sum SEED TXNS LINES"
         );
     }
     ExitCode::from(status)

@@ -1,7 +1,12 @@
-use Rattle.lt_program.proofs.RunLaws.{crew_answers}
+use Rattle.lt_program.proofs.RunLaws.{crew_answers, live_answers}
 use Rattle.lt_program.proofs.player.run_of.Goals as goal
 
 pub returns-in-Crew-clause-run : goal.returns-in-Crew-clause-run
 returns-in-Crew-clause-run g c =
     crew_answers c.args.player c.in-Crew.workers c.args.trace.now c.run_crew.result _ _ c.in-Crew.is c.run_crew.ensures.run
     c.run_crew.ensures.told
+
+pub returns-in-Live-clause-run : goal.returns-in-Live-clause-run
+returns-in-Live-clause-run g c =
+    live_answers c.args.player c.in-Live.threads c.args.trace.now c.run_live.result _ _ c.in-Live.is c.run_live.ensures.run
+    c.run_live.ensures.told

@@ -25,6 +25,21 @@ returns-in-Crew-clause-unread g c = λ four. (
   c.play-in-Crew.ensures.unread four,
 )
 
+pub returns-in-Live-clause-only : goal.returns-in-Live-clause-only
+returns-in-Live-clause-only g c = only_played c.play-in-Live.result c.play-in-Live.ensures.only
+
+pub returns-in-Live-clause-refused : goal.returns-in-Live-clause-refused
+returns-in-Live-clause-refused g c = λ three. (
+  asked_by (players.Live c.in-Live.threads) _ _ c.in-Live.is (found_form _ _ _ c.in-Some.is c.in-Ok.ensures.some),
+  c.play-in-Live.ensures.refused three,
+)
+
+pub returns-in-Live-clause-unread : goal.returns-in-Live-clause-unread
+returns-in-Live-clause-unread g c = λ four. (
+  asked_by (players.Live c.in-Live.threads) _ _ c.in-Live.is (found_form _ _ _ c.in-Some.is c.in-Ok.ensures.some),
+  c.play-in-Live.ensures.unread four,
+)
+
 pub returns-in-Make-clause-only : goal.returns-in-Make-clause-only
 returns-in-Make-clause-only g c = only_given c.give.result c.give.ensures.only
 

@@ -9,9 +9,11 @@ returns c =
     let top_is : app_of c.subcommand_required.result ≡ program = search rules in
     let one = c.in_ok-subcommand.ensures.shape c.bare-2.ensures.local
     ∙ ap₂ with_subcommand top_is (ap (λ (a : App). a.top) c.bare-2.ensures.app) in
-    let two = c.in_ok-subcommand-2.ensures.shape c.in_ok-crew_form.ensures.local
-    ∙ ap₂ with_subcommand one (ap (λ (a : App). a.top) c.in_ok-crew_form.ensures.app) in
-    let three = c.in_ok-subcommand-3.ensures.shape c.in_ok-maker_form.ensures.local
-    ∙ ap₂ with_subcommand two (ap (λ (a : App). a.top) c.in_ok-maker_form.ensures.app) in
-    IfOk-weaker c.subcommand-4.result _ _ (λ r adds. adds.shape c.in_ok-maker_form-2.ensures.local
-    ∙ ap₂ with_subcommand three (ap (λ (a : App). a.top) c.in_ok-maker_form-2.ensures.app)) c.subcommand-4.ensures
+    let two = c.in_ok-subcommand-2.ensures.shape c.in_ok-workers_form.ensures.local
+    ∙ ap₂ with_subcommand one (ap (λ (a : App). a.top) c.in_ok-workers_form.ensures.app) in
+    let three = c.in_ok-subcommand-3.ensures.shape c.in_ok-workers_form-2.ensures.local
+    ∙ ap₂ with_subcommand two (ap (λ (a : App). a.top) c.in_ok-workers_form-2.ensures.app) in
+    let four = c.in_ok-subcommand-4.ensures.shape c.in_ok-maker_form.ensures.local
+    ∙ ap₂ with_subcommand three (ap (λ (a : App). a.top) c.in_ok-maker_form.ensures.app) in
+    IfOk-weaker c.subcommand-5.result _ _ (λ r adds. adds.shape c.in_ok-maker_form-2.ensures.local
+    ∙ ap₂ with_subcommand four (ap (λ (a : App). a.top) c.in_ok-maker_form-2.ensures.app)) c.subcommand-5.ensures

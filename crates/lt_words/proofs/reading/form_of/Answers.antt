@@ -1,8 +1,11 @@
-use Rattle.lt_words.proofs.ReadingLaws.{if_none, no_crew, no_make, no_sum}
+use Rattle.lt_words.proofs.ReadingLaws.{if_none, no_crew, no_live, no_make, no_sum}
 use Rattle.lt_words.proofs.reading.form_of.Goals as goal
 
-pub returns-in_err-number_in-in-crew-clause-none : goal.returns-in_err-number_in-in-crew-clause-none
-returns-in_err-number_in-in-crew-clause-none c = if_none _ (no_crew c.args.name.now _ c.in-crew.is c.in_err-number_in-in-crew.ensures.none)
+pub returns-in_err-workers_in-in-crew-clause-none : goal.returns-in_err-workers_in-in-crew-clause-none
+returns-in_err-workers_in-in-crew-clause-none c = if_none _ (no_crew c.args.name.now _ c.in-crew.is c.in_err-workers_in-in-crew.ensures.none)
+
+pub returns-in_err-workers_in-in-live-clause-none : goal.returns-in_err-workers_in-in-live-clause-none
+returns-in_err-workers_in-in-live-clause-none c = if_none _ (no_live c.args.name.now _ c.in-live.is c.in_err-workers_in-in-live.ensures.none)
 
 pub returns-in_err-recipe_in-in-make-clause-none : goal.returns-in_err-recipe_in-in-make-clause-none
 returns-in_err-recipe_in-in-make-clause-none c = if_none _ (no_make c.args.name.now _ c.in-make.is c.in_err-recipe_in-in-make.ensures.none)
