@@ -1,0 +1,2 @@
+pub mod HeldRanges
+pub mod Crossings
