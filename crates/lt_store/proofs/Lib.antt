@@ -1,0 +1,14 @@
+pub mod RowsLaws
+pub mod RerunLaws
+pub mod PairLaws
+pub mod TableLaws
+pub mod LiveLaws
+pub mod BookLaws
+pub mod PlaceLaws
+pub mod LockLaws
+pub mod BeginLaws
+pub mod NumberLaws
+pub mod StoreLaws
+pub mod StepLaws
+pub mod MiddleLaws
+pub mod WholeLaws

@@ -1,0 +1,14 @@
+pub mod Rows
+pub mod Rerun
+pub mod Undoing
+pub mod Attempts
+pub mod Clear
+pub mod Locks
+pub mod Ranges
+pub mod Places
+pub mod Book
+pub mod View
+pub mod Acting
+pub mod Store
+pub mod Steps
+pub mod Stepping
