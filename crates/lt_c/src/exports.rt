@@ -1,5 +1,5 @@
 //! What C calls. No call has a condition: whatever C hands in is tested, and answered.
-ghost use Rattle.std.specs.Prelude.{◌≡◌, true, false, IfSome, if◌then◌else◌};
+ghost use Rattle.std.specs.Prelude.{◌≡◌, ◌↔◌, IsTrue, true, false, IfSome, if◌then◌else◌};
 ghost use Rattle.std.specs.List.{All};
 ghost use Rattle.lt_c.specs.Handles.{Keeps, view_in};
 ghost use Rattle.lt_c.specs.Opened.{IsShut, OpenTold};
@@ -12,16 +12,18 @@ use crate::opening::open;
 use lt_seq::YardPlan;
 use std::alloc::Global;
 
+/// Whether it is shut.
+fn is_shut(handle: &LtHandle) -> bool
+    ensures { IsTrue result ↔ IsShut handle.now }
+{
+    !handle.is_open
+}
+
 /// Whether all are shut.
 fn are_shut(handles: &[LtHandle]) -> bool
-    ensures { result ≡ true → All IsShut handles.now }
+    ensures { IsTrue result ↔ All IsShut handles.now }
 {
-    for handle in handles {
-        if handle.is_open {
-            return false;
-        }
-    }
-    true
+    handles.iter().all(|handle| is_shut(handle))
 }
 
 /// Opens a table of 1 to 16 trees, a limit of 1 to 65,536 rows and a buffer of at most 65,536, with 1 to 17 handles, which were shut.
@@ -173,6 +175,7 @@ pub extern "C" fn lt_look(alloc: Global, handle: &mut LtHandle) -> LtAnswer
 #[unsafe(no_mangle)]
 pub extern "C" fn lt_counters(alloc: Global, handle: &mut LtHandle) -> LtCounts
     ensures kept { handle.new.is_open ≡ handle.old.is_open }
+    ensures shut { handle.old.is_open ≡ false → result ≡ record { granted = 0; held = 0; busy = 0; joins = 0 } }
     ensures told { IfSome handle.old.slot.held (λ h. result ≡ h.counts) }
     ensures same { handle.new.slot.held ≡ handle.old.slot.held }
 {
