@@ -21,7 +21,7 @@ pub use fault::Fault;
 pub use lists::{HeldList, Owners};
 pub use pairs::{add_held, free, grant, others_of};
 pub use plan::{PLACES_END, YardPlan};
-pub use runs::{JoinCounts, join_pairs};
+pub use runs::{JoinCounts, are_joined, join_pairs};
 pub use seq_note::SeqNote;
 pub use seq_pass::SeqPass;
 pub use seq_yard::SeqYard;

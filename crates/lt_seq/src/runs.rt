@@ -22,13 +22,21 @@ fn is_cut(marks: &[Key], first: &Pair, second: &Pair) -> bool
     })
 }
 
+/// Whether a join makes one range of two neighbours: they have one owner, and no mark keeps them apart. A mark does so
+/// that is greater than the first one's right end and at most the second one's left end.
+pub fn are_joined(marks: &[Key], first: &Pair, second: &Pair) -> bool
+    ensures { result ≡ are_joined marks.now first.now second.now }
+{
+    first.owner == second.owner && !is_cut(marks, first, second)
+}
+
 /// Takes the next pair into the last one where the two are joined, and says whether they are.
 fn take_in(marks: &[Key], last: &mut Pair, next: &Pair) -> bool
     ensures joined { result ≡ are_joined marks.now last.old next.now }
     ensures owner { last.new.owner ≡ last.old.owner }
     ensures range { last.new.range ≡ (if result then hull last.old.range next.now.range else last.old.range) }
 {
-    let joined = last.owner == next.owner && !is_cut(marks, last, next);
+    let joined = are_joined(marks, last, next);
     if joined {
         last.range = last.range.hull(&next.range);
     }
