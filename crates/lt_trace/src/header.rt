@@ -20,7 +20,7 @@ fn header_number(text: &[u8], form: HeaderForm) -> Option<u64>
 }
 
 /// The number of the header line that comes first, and the bytes behind that line.
-fn header_line<'a>(
+pub fn header_line<'a>(
     bytes: &'a [u8],
     line: u32,
     form: HeaderForm,

@@ -2,7 +2,7 @@
 
 /// A header line: its word, and the least and the greatest number that may stand behind it.
 #[derive(Clone, Copy)]
-pub(crate) struct HeaderForm {
+pub struct HeaderForm {
     pub word: &'static [u8],
     pub least: u64,
     pub most: u64,
@@ -23,7 +23,7 @@ pub(crate) const TREES: HeaderForm = HeaderForm {
 };
 
 /// The limit on rows in use.
-pub(crate) const LIMIT: HeaderForm = HeaderForm {
+pub const LIMIT: HeaderForm = HeaderForm {
     word: b"limit",
     least: 1,
     most: 65_536,

@@ -13,14 +13,14 @@ const ENDPOINT_VERSION: u32 = 2;
 
 /// A key, or that the text spells one of more than 63 bytes.
 #[derive(Clone, Copy)]
-pub(crate) enum KeyWord {
+pub enum KeyWord {
     Fits(Key),
     Long,
 }
 
 /// The two keys of a range in the order of the text, or that one of them has more than 63 bytes.
 #[derive(Clone, Copy)]
-pub(crate) enum Ends {
+pub enum Ends {
     Fit { left: Key, right: Key },
     Long,
 }
@@ -33,7 +33,7 @@ fn has_star(text: &[u8]) -> bool
 }
 
 /// The key that the text spells, in this version of the text: None where it spells none.
-fn read_key(version: u32, text: &[u8]) -> Option<KeyWord>
+pub fn read_key(version: u32, text: &[u8]) -> Option<KeyWord>
     ensures { MatchOption result (IsNoKey version text.now) (IsKeyOf version text.now) }
 {
     if version < ENDPOINT_VERSION && has_star(text) {
@@ -67,7 +67,7 @@ fn key_len(text: &[u8]) -> Option<usize>
 }
 
 /// The key's text that comes first, and what stands behind the space after it.
-fn cut_key(text: &[u8]) -> Option<(&[u8], &[u8])>
+pub fn cut_key(text: &[u8]) -> Option<(&[u8], &[u8])>
     ensures found { IfSome result (λ parts. text.now ≡ parts.0.now ++ 32 ∷ parts.1.now) }
     ensures only { (key : Key) (rest : List ℕ) → IsOfBytes key → text.now ≡ key_text key ++ 32 ∷ rest →
         IsSomeAnd result (λ parts. (parts.0.now ≡ key_text key) × (parts.1.now ≡ rest)) }
@@ -88,7 +88,7 @@ fn ends_of(left: KeyWord, right: KeyWord) -> Ends
 }
 
 /// The two keys of a range: None where the text spells none.
-pub(crate) fn read_ends(version: u32, text: &[u8]) -> Option<Ends>
+pub fn read_ends(version: u32, text: &[u8]) -> Option<Ends>
     ensures { MatchOption result (AreNoKeys version text.now) (AreKeysOf version text.now) }
 {
     let (left, right) = cut_key(text)?;

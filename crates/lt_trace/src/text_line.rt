@@ -26,7 +26,7 @@ fn next_line(bytes: &[u8]) -> (&[u8], Option<&[u8]>)
 }
 
 /// The first line and the bytes behind it, unless its number, its length or its end is a fault.
-pub(crate) fn take_line(bytes: &[u8], number: u32) -> Result<(&[u8], &[u8]), TraceFault>
+pub fn take_line(bytes: &[u8], number: u32) -> Result<(&[u8], &[u8]), TraceFault>
     ensures line { IfOk result (λ parts. first_line bytes.now ≡ record { bytes = parts.0.now; ended = true }) }
     ensures rest { IfOk result (λ parts. bytes.now ≡ parts.0.now ++ 10 ∷ parts.1.now) }
     ensures good { IfOk result (λ parts. fault_of_text number (first_line bytes.now) ≡ None) }
