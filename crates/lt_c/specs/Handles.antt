@@ -1,10 +1,9 @@
 -- A handle: a share of the table, and a pass of it.
-use Rattle.std.specs.Prelude.{◌≡◌, ◌<◌, IfSome, Bool, true, false}
+use Rattle.std.specs.Prelude.{◌≡◌}
 use Rattle.std.specs.Arc.{arc_value}
 use Rattle.lt_rows.specs.declared.view.View.{View}
 use Rattle.lt_locktree.specs.declared.locktree.Locktree.{Locktree}
-use Rattle.lt_locktree.specs.declared.tree_pass.TreePass.{TreePass}
-use Rattle.lt_locktree.specs.Calls.{sees, IsOfTable}
+use Rattle.lt_locktree.specs.Calls.{sees}
 use Rattle.lt_c.specs.declared.answer.LtAnswer.{LtAnswer}
 use Rattle.lt_c.specs.declared.handle.Handle.{Handle}
 use Rattle.lt_c.specs.Told.{counted}

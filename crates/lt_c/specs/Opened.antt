@@ -1,7 +1,8 @@
 -- What C is told of an open.
-use Rattle.std.specs.Prelude.{◌≡◌, ◌⊎◌, ℕ, ◌≤◌, List, length, true, false, IfSome, ◌<◌}
+use Rattle.std.specs.Prelude.{◌≡◌, ◌⊎◌, ℕ, List, [], length, true, false, IfSome, ◌<◌}
 use Rattle.std.specs.List.{All}
 use Rattle.lt_seq.specs.declared.plan.YardPlan.{YardPlan}
+use Rattle.lt_rows.specs.Plan.{with_marks}
 use Rattle.lt_locktree.specs.declared.locktree.Locktree.{Locktree}
 use Rattle.lt_c.specs.declared.answer.LtAnswer.{LtAnswer}
 use Rattle.lt_c.specs.declared.c_handle.LtHandle.{LtHandle}
@@ -15,10 +16,10 @@ IsOpenOn t h = (h.is_open ≡ true) × IfSome h.slot.held (IsOn t)
 abbrev pub IsShut : LtHandle → Type 0
 IsShut h = h.is_open ≡ false
 
--- they are open handles of one table of this plan, one for each pass
+-- they are open handles of one table of this plan without marks, one for each pass
 pub record AreOnOneTable (plan : YardPlan) (handles : List LtHandle) : Type 0 where
   pub table : Locktree
-  pub plan_is : table.rows.plan ≡ plan
+  pub plan_is : table.rows.plan ≡ with_marks plan []
   pub opened : All (IsOpenOn table) handles
   pub count : length handles ≡ plan.passes
 

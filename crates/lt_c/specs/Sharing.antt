@@ -1,5 +1,5 @@
 -- The passes of a new table, with the rights spread.
-use Rattle.std.specs.Prelude.{◌≡◌, ◌<◌}
+use Rattle.std.specs.Prelude.{◌<◌}
 use Rattle.lt_locktree.specs.declared.locktree.Locktree.{Locktree}
 use Rattle.lt_locktree.specs.declared.tree_pass.TreePass.{TreePass}
 use Rattle.lt_locktree.specs.Calls.{sees, IsOfTable}

@@ -4,7 +4,6 @@ use Rattle.std.specs.Prelude.{length, take, drop, min, Bool, true, false, nat_eq
 use Rattle.lt_ranges.specs.declared.key.Key.TheVariants.{Bytes}
 use Rattle.lt_ranges.specs.Key.{key_le}
 use Rattle.lt_ranges.specs.Interval.{Interval}
-use Rattle.lt_seq.specs.declared.event.Deed.{Deed}
 use Rattle.lt_seq.specs.declared.event.Deed.TheVariants.{Free, Who}
 use Rattle.lt_seq.specs.declared.event.JoinNote.{JoinNote}
 use Rattle.lt_seq.specs.declared.event.Look.{Look}

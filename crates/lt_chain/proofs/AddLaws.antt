@@ -1,7 +1,7 @@
 -- The plan for one row more in a buffer meets the condition of a commit.
 use Rattle.std.proofs.Common.{◌≡◌, inl, inr, ℕ, ◌+◌, ◌<◌, List, [], ◌∷◌, refl, sym, ap, ◌∙◌, subst, arith, ne_eqb}
 use Rattle.std.specs.Prelude.{pos, slice_index, Bool, true, false, nat_eq}
-use Rattle.lt_seq.specs.declared.plan.YardPlan.{YardPlan}
+use Rattle.lt_rows.specs.declared.row_plan.RowPlan.{RowPlan}
 use Rattle.lt_seq.specs.declared.event.Event.{Event}
 use Rattle.lt_seq.specs.declared.event.Mode.TheVariants.{Tree as TreeMode, Buffer}
 use Rattle.lt_seq.specs.declared.event.Mode.{Mode}
@@ -27,7 +27,7 @@ unfolding mode_of
 mode_buffer ws txn count more owner rows =
     ap (λ b. mode_by b (TreeMode (slice_index ws 19)) (Buffer (slice_index ws 0) (slice_index ws 20))) (ne_eqb (slice_index ws 0) 0 (λ e. omega arith)) ∙ (λ j. Buffer (owner j) (rows j))
 
-module _ (k : YardPlan) (v : View) (tree count : ℕ) (e : Event) (pass : ℕ) (ask : AsksBuffered pass tree e) (i n : Images) (lt : tree < k.trees) (h : HasImages k v tree i) (first : IsFirst i)
+module _ (k : RowPlan) (v : View) (tree count : ℕ) (e : Event) (pass : ℕ) (ask : AsksBuffered pass tree e) (i n : Images) (lt : tree < k.trees) (h : HasImages k v tree i) (first : IsFirst i)
     (plan : AddsRow i e.txn count ask.range n) where
   now : mode_after v (n.anchor ∷ n.pool ∷ n.row ∷ []) tree ≡ Buffer e.txn (count + 1)
   now = ap mode_of (after_anchor k v tree i n lt h plan.anchor_row plan.pool_row plan.row_is) ∙ mode_buffer n.anchor.words e.txn (count + 1) ask.txn plan.owner plan.count_is
@@ -99,14 +99,14 @@ module _ (k : YardPlan) (v : View) (tree count : ℕ) (e : Event) (pass : ℕ) (
 abbrev pub ask_on : (pass pass' tree : ℕ) (e : Event) → pass' ≡ pass → AsksBuffered pass tree e → AsksBuffered pass' tree e
 ask_on pass pass' tree e same ask = record { range = ask.range; pass_is = ask.pass_is ∙ sym same; txn = ask.txn; question = ask.question; deed = ask.deed }
 
-begin_by : (k : YardPlan) (v w : View) (tree : ℕ) → images w tree ≡ images v tree → MayBegin k v tree → MayBegin k w tree
+begin_by : (k : RowPlan) (v w : View) (tree : ℕ) → images w tree ≡ images v tree → MayBegin k v tree → MayBegin k w tree
 begin_by k v w tree e m = record {
   room = m.room;
   mode = ap mode_of e ∙ m.mode;
   empty = ap (λ (ws : List ℕ). (node_of ws).left) e ∙ m.empty;
 }
 
-pub may_on : (k : YardPlan) (v w : View) (tree txn count : ℕ) → Backs v (tree ∷ []) → KeepsRows v w → MayAdd k v tree txn count → MayAdd k w tree txn count
+pub may_on : (k : RowPlan) (v w : View) (tree txn count : ℕ) → Backs v (tree ∷ []) → KeepsRows v w → MayAdd k v tree txn count → MayAdd k w tree txn count
 may_on k v w tree txn count b keeps (inl m) =
     let o = one_here tree in
     let same : images w tree ≡ images v tree = ap image_of (keeps tree (backs_held v (tree ∷ []) b tree (omega arith))) in
@@ -129,7 +129,7 @@ pub counted : (ws : List ℕ) (txn count : ℕ) → mode_of ws ≡ Buffer txn co
 unfolding mode_of
 counted ws txn count e = buffer_count (nat_eq (slice_index ws 0) 0) (slice_index ws 19) (slice_index ws 0) (slice_index ws 20) txn count e
 
-pub may_append : (k : YardPlan) (v : View) (tree txn count : ℕ) (ws : List ℕ) → Backs v (tree ∷ []) → ws ≡ words_of (row_at v tree) → MayAppend k v tree txn count
+pub may_append : (k : RowPlan) (v : View) (tree txn count : ℕ) (ws : List ℕ) → Backs v (tree ∷ []) → ws ≡ words_of (row_at v tree) → MayAppend k v tree txn count
     → MayAdd k v tree txn (slice_index ws 20)
 may_append k v tree txn count ws b loaded m =
     let o = one_here tree in

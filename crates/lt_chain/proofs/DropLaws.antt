@@ -2,14 +2,14 @@
 use Rattle.std.proofs.Common.{◌≡◌, ℕ, zero, suc, ◌-◌, ◌<◌, ◌≤◌, List, [], ◌∷◌, ◌++◌, length, take, get_or, refl, sym, ap, ◌∙◌, subst, arith}
 use Rattle.std.proofs.lemmas.List.{take_all}
 use Rattle.std.specs.Prelude.{Option}
-use Rattle.lt_seq.specs.declared.plan.YardPlan.{YardPlan}
+use Rattle.lt_rows.specs.declared.row_plan.RowPlan.{RowPlan}
 use Rattle.lt_seq.specs.declared.event.Mode.TheVariants.{Buffer}
 use Rattle.lt_seq.specs.declared.event.Mode.{Mode}
 use Rattle.lt_seq.specs.declared.event.Pair.{Pair}
 use Rattle.lt_seq.specs.declared.event.Event.{Event}
 use Rattle.lt_seq.specs.declared.event.Deed.TheVariants.{Free}
 use Rattle.lt_seq.specs.History.{after}
-use Rattle.lt_seq.specs.SeqPass.{plain}
+use Rattle.lt_rows.specs.Plan.{setting_of}
 use Rattle.lt_seq.specs.Sound.{IsSized}
 use Rattle.lt_seq.specs.Table.{tree_at}
 use Rattle.lt_seq.proofs.LawfulLaws.{lawful_history}
@@ -53,7 +53,7 @@ pub split_last : (rows : List ℕ) → 0 < length rows → rows ≡ take (length
 split_last rows some = sym (take_all (length rows) rows (omega arith)) ∙ last_of rows (length rows) some (omega arith)
 
 -- the chain has rows, and they are further ones
-pub record Ended (k : YardPlan) (rows : List ℕ) : Type 0 where
+pub record Ended (k : RowPlan) (rows : List ℕ) : Type 0 where
   pub some : 0 < length rows
   pub further : (q : ℕ) → 0 < times q rows → k.trees < q
 
@@ -72,21 +72,21 @@ ended_here v tree rows lt h t =
     let held = all_held v (tree ∷ rows) h.backs in
     let shows = whole_chain_shows_buffer v t.0 tree owner count rows t.2 held lt h.shows.buffer.2 h.shows.chain in
     let anchor_in : IsIn (has v) tree = held tree (let o = one_here tree in omega arith) in
-    let true_mode : mode_of (images v tree) ≡ (tree_at (after (plain v.plan) t.0) tree).mode = anchor_shows_mode v t.0 tree t.2 lt anchor_in in
-    let lawful = lawful_history (plain v.plan) t.0 t.2.shape.legal in
+    let true_mode : mode_of (images v tree) ≡ (tree_at (after (setting_of v.plan) t.0) tree).mode = anchor_shows_mode v t.0 tree t.2 lt anchor_in in
+    let lawful = lawful_history (setting_of v.plan) t.0 t.2.shape.legal in
     let counted : count ≡ length rows = shows.2 in
-    let more = sized_some v.plan.buffer (tree_at (after (plain v.plan) t.0) tree).pairs (tree_at (after (plain v.plan) t.0) tree).mode owner count (sym true_mode ∙ h.shows.buffer.2) (lawful.sized tree) in
+    let more = sized_some v.plan.buffer (tree_at (after (setting_of v.plan) t.0) tree).pairs (tree_at (after (setting_of v.plan) t.0) tree).mode owner count (sym true_mode ∙ h.shows.buffer.2) (lawful.sized tree) in
     record {
       some = omega arith;
-      further = λ q some. (read_run_is_further (has v) (shown v []) v.plan.trees (rows_of v.plan) (nodes t.2.contents) (modes t.2.contents) (after (plain v.plan) t.0) t.2.forest
+      further = λ q some. (read_run_is_further (has v) (shown v []) v.plan.trees (rows_of v.plan) (nodes t.2.contents) (modes t.2.contents) (after (setting_of v.plan) t.0) t.2.forest
           tree owner count 0 q rows t.2.shape.forest (view_is v [] t.2.contents t.2.agrees).before held lt
           (t.2.shape.forest.modes tree lt ∙ (sym true_mode ∙ h.shows.buffer.2)) (chain_run (shown v [] tree).left v rows h.shows.chain) some).0;
     }
 
-pub chain_ended : (k : YardPlan) (v : View) (tree : ℕ) (rows : List ℕ) → v.plan ≡ k → tree < k.trees → HoldsChain v tree rows → Teaches v → Ended k rows
-chain_ended k v tree rows is lt h t = subst (λ (p : YardPlan). Ended p rows) is (ended_here v tree rows (subst (λ (p : YardPlan). tree < p.trees) (sym is) lt) h t)
+pub chain_ended : (k : RowPlan) (v : View) (tree : ℕ) (rows : List ℕ) → v.plan ≡ k → tree < k.trees → HoldsChain v tree rows → Teaches v → Ended k rows
+chain_ended k v tree rows is lt h t = subst (λ (p : RowPlan). Ended p rows) is (ended_here v tree rows (subst (λ (p : RowPlan). tree < p.trees) (sym is) lt) h t)
 
-pub pool_out : (k : YardPlan) (tree : ℕ) (rows : List ℕ) → tree < k.trees → Ended k rows → times k.trees (tree ∷ rows) ≡ 0
+pub pool_out : (k : RowPlan) (tree : ℕ) (rows : List ℕ) → tree < k.trees → Ended k rows → times k.trees (tree ∷ rows) ≡ 0
 pool_out k tree rows lt far = by_count (times k.trees rows) refl
   where
     by_count : (n : ℕ) → times k.trees rows ≡ n → times k.trees (tree ∷ rows) ≡ 0
@@ -94,7 +94,7 @@ pool_out k tree rows lt far = by_count (times k.trees rows) refl
     by_count (suc n) e = absurd (let f = far.further k.trees (omega arith) in omega arith)
 
 -- what was loaded at the chain's two ends
-pub ends_held : (k : YardPlan) (v : View) (tree : ℕ) (rows : List ℕ) (i : Images) → tree < k.trees → Ended k rows → Backs v (k.trees ∷ tree ∷ rows)
+pub ends_held : (k : RowPlan) (v : View) (tree : ℕ) (rows : List ℕ) (i : Images) → tree < k.trees → Ended k rows → Backs v (k.trees ∷ tree ∷ rows)
     → i.anchor.row ≡ tree → i.pool.row ≡ k.trees → i.row.row ≡ get_or rows (length rows - 1) 0
     → i.anchor.words ≡ words_of (row_at v tree) → i.pool.words ≡ words_of (row_at v k.trees) → i.row.words ≡ words_of (row_at v (get_or rows (length rows - 1) 0))
     → HasImages k v tree i

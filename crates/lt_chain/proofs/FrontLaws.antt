@@ -4,7 +4,7 @@ use Rattle.std.specs.Prelude.{slice_index}
 use Rattle.lt_forest.specs.Counts.{times}
 use Rattle.lt_forest.specs.Views.{IsIn}
 use Rattle.lt_forest.proofs.SameRows.{one_here}
-use Rattle.lt_seq.specs.declared.plan.YardPlan.{YardPlan}
+use Rattle.lt_rows.specs.declared.row_plan.RowPlan.{RowPlan}
 use Rattle.lt_rows.specs.declared.view.View.{View}
 use Rattle.lt_rows.specs.declared.take.Take.TheVariants.{Taken}
 use Rattle.lt_rows.specs.Nodes.{node_of}
@@ -19,18 +19,18 @@ use Rattle.lt_chain.specs.declared.images.Images.{Images}
 use Rattle.lt_chain.specs.Images.{HasImages, HoldsThree}
 use Rattle.lt_chain.proofs.HoldingLaws.{one_else, backs_out, backs_has, backs_taken}
 
-pub pool_row : (k : YardPlan) → k.trees < rows_of k
+pub pool_row : (k : RowPlan) → k.trees < rows_of k
 unfolding rows_of
 pool_row k = omega arith
 
 -- the first vacant row, as a licensed pass reads it off the pool's anchor
-pub first_vacant : (k : YardPlan) (v : View) (rows ws : List ℕ) (l : ℕ) → Backs v rows → 0 < times k.trees rows → v.plan ≡ k → v.licensed ≡ true → Teaches v → ws ≡ words_of (row_at v k.trees)
+pub first_vacant : (k : RowPlan) (v : View) (rows ws : List ℕ) (l : ℕ) → Backs v rows → 0 < times k.trees rows → v.plan ≡ k → v.licensed ≡ true → Teaches v → ws ≡ words_of (row_at v k.trees)
     → l ≡ (node_of ws).left → (l ≢ 0) × (k.trees < l - 1) × (l - 1 < rows_of k)
 unfolding node_of
 first_vacant k v rows ws l b more plan_is licensed teaches is link_is =
     let h = backs_has v rows b k.trees more ws is in
     let row = b.keeps.held k.trees more in
-    let trees : v.plan.trees ≡ k.trees = ap (λ (p : YardPlan). p.trees) plan_is in
+    let trees : v.plan.trees ≡ k.trees = ap (λ (p : RowPlan). p.trees) plan_is in
     let found = vacant v teaches.0 teaches.2 licensed (subst (λ (t : ℕ). IsIn (has v) t) (sym trees) h.0) in
     let link : slice_index (images v v.plan.trees) 17 ≡ found.0 + 1 = found.1 in
     let same : slice_index (images v v.plan.trees) 17 ≡ slice_index ws 17 = ap (λ (t : ℕ). slice_index (images v t) 17) trees ∙ ap (λ (l : List ℕ). slice_index l 17) h.2 in
@@ -39,7 +39,7 @@ first_vacant k v rows ws l b more plan_is licensed teaches is link_is =
     let more' = far.0 in let less = far.1 in
     (λ z. some (sym link_is ∙ z), omega arith, omega arith)
 
-module _ (k : YardPlan) (tree first : ℕ) (lt : tree < k.trees) (further : k.trees < first) where
+module _ (k : RowPlan) (tree first : ℕ) (lt : tree < k.trees) (further : k.trees < first) where
   pub pool_apart : times k.trees (tree ∷ []) ≡ 0
   pool_apart = let z = one_else k.trees tree (λ e. omega arith) in omega arith
 

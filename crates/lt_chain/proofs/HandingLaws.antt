@@ -1,7 +1,7 @@
 -- The commit that gives a whole chain to the pool, and what is held behind it.
 use Rattle.std.proofs.Common.{◌≡◌, ◌≢◌, ℕ, ℤ, ◌+◌, ◌-◌, ◌<◌, List, [], ◌∷◌, ◌++◌, length, take, refl, sym, ap, ◌∙◌, subst, arith}
 use Rattle.std.specs.Prelude.{Option, Some, None, nat_eq, pos, ◌+ℤ◌}
-use Rattle.lt_seq.specs.declared.plan.YardPlan.{YardPlan}
+use Rattle.lt_rows.specs.declared.row_plan.RowPlan.{RowPlan}
 use Rattle.lt_seq.specs.declared.event.Event.{Event}
 use Rattle.lt_seq.specs.declared.event.Deed.TheVariants.{Free}
 use Rattle.lt_seq.specs.declared.event.Mode.TheVariants.{Tree as TreeMode, Buffer}
@@ -30,7 +30,7 @@ use Rattle.lt_chain.proofs.ReadLaws.{owned, all_held}
 ne_of : (q r : ℕ) → one_if (nat_eq r q) ≡ 0 → q ≢ r
 ne_of q r z e = let o = one_equal q r e in omega arith
 
-module _ (k : YardPlan) (v : View) (tree : ℕ) (rows : List ℕ) (i n : Images) (lt : tree < k.trees) (h : HasImages k v tree i)
+module _ (k : RowPlan) (v : View) (tree : ℕ) (rows : List ℕ) (i n : Images) (lt : tree < k.trees) (h : HasImages k v tree i)
     (b : Backs v (k.trees ∷ tree ∷ rows)) (ends : EndsWith rows i) (d : DropsChain i n) where
   abbrev front : List ℕ
   front = take (length rows - 1) rows

@@ -3,7 +3,7 @@ use Rattle.std.proofs.Common.{◌≡◌, ◌≢◌, ℕ, ◌<◌, List, [], ◌�
 use Rattle.std.specs.Prelude.{slice_index}
 use mathlib.Core.Logic.{dite}
 use native.Mathlib.Decide.{ℕ_discrete}
-use Rattle.lt_seq.specs.declared.plan.YardPlan.{YardPlan}
+use Rattle.lt_rows.specs.declared.row_plan.RowPlan.{RowPlan}
 use Rattle.lt_seq.specs.declared.event.Event.{Event}
 use Rattle.lt_forest.specs.Counts.{times}
 use Rattle.lt_forest.specs.Views.{IsIn, PlansThese, PlansOnly}
@@ -22,7 +22,7 @@ use Rattle.lt_chain.specs.declared.images.Images.{Images}
 use Rattle.lt_chain.specs.Images.{HasImages, HoldsThree, HoldsImage, HoldsImages, AreApart, IsGone}
 use Rattle.lt_chain.proofs.HoldingLaws.{one_else}
 
-module _ (k : YardPlan) (v : View) (tree : ℕ) (i n : Images) (lt : tree < k.trees) (h : HasImages k v tree i)
+module _ (k : RowPlan) (v : View) (tree : ℕ) (i n : Images) (lt : tree < k.trees) (h : HasImages k v tree i)
     (row_a : n.anchor.row ≡ i.anchor.row) (row_p : n.pool.row ≡ i.pool.row) (row_x : n.row.row ≡ i.row.row) where
   abbrev pub planned_images : List RowImage
   planned_images = n.anchor ∷ n.pool ∷ n.row ∷ []

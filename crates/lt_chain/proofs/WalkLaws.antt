@@ -8,7 +8,7 @@ use Rattle.lt_seq.specs.Table.{TreeState, tree_at}
 use mathlib.Core.Logic.{dite}
 use native.Mathlib.Decide.{ℕ_discrete}
 use Rattle.lt_seq.specs.History.{after}
-use Rattle.lt_seq.specs.SeqPass.{plain}
+use Rattle.lt_rows.specs.Plan.{setting_of}
 use Rattle.lt_forest.specs.Counts.{times}
 use Rattle.lt_forest.specs.Trees.{Node, Nodes}
 use Rattle.lt_forest.specs.Forest.{Forest, IsForest, IsChain, IsRun, rows_at}
@@ -95,7 +95,7 @@ module _ (v : View) (tree owner count r : ℕ) (rows : List ℕ) (w : Walks v tr
   pub next_row : (v.plan.trees < r) × (r < rows_of v.plan) × (times r (tree ∷ rows) ≡ 0)
   next_row =
       let forest = w.teaches.2.shape.forest in
-      let at = as_chain (nodes w.teaches.2.contents) (nodes w.teaches.2.contents tree).left (w.teaches.2.forest.tree tree) (tree_at (after (plain v.plan) w.teaches.0) tree).pairs
+      let at = as_chain (nodes w.teaches.2.contents) (nodes w.teaches.2.contents tree).left (w.teaches.2.forest.tree tree) (tree_at (after (setting_of v.plan) w.teaches.0) tree).pairs
       (modes w.teaches.2.contents tree) owner count mode_is (forest.grown tree lt) in
       let cut = cut_chain (nodes w.teaches.2.contents) (nodes w.teaches.2.contents tree).left rows at.rows (r + 1) at.leads true_run in
       let same : (q : ℕ) → times q (rows_at (w.teaches.2.forest.tree tree)) ≡ times q at.rows = (λ q. ap (λ g. times q (rows_at g)) at.is) in

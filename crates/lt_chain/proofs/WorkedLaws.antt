@@ -6,7 +6,7 @@ use Rattle.lt_ranges.specs.Interval.{Interval, IsInterval, whole}
 use Rattle.lt_ranges.specs.Key.{key_le}
 use Rattle.lt_seq.specs.Table.{held_in, is_whole}
 use Rattle.lt_seq.specs.declared.event.Deed.TheVariants.{Free}
-use Rattle.lt_seq.specs.declared.plan.YardPlan.{YardPlan}
+use Rattle.lt_rows.specs.declared.row_plan.RowPlan.{RowPlan}
 use Rattle.lt_seq.specs.declared.event.Held.{Held}
 use Rattle.lt_seq.specs.declared.event.Mode.TheVariants.{Tree as TreeMode}
 use Rattle.lt_forest.specs.Forest.{folded}
@@ -50,20 +50,20 @@ backs_rows v w rows same b = record {
 anchor_words : (v : View) (tree : ℕ) (ws : List ℕ) → Backs v (tree ∷ []) → ws ≡ words_of (row_at v tree) → images v tree ≡ ws
 anchor_words v tree ws b loaded = (backs_has v (tree ∷ []) b tree (let o = one_here tree in omega arith) ws loaded).2
 
-pub begins_there : (k j : YardPlan) (v : View) (tree : ℕ) (ws : List ℕ) → j ≡ k → Backs v (tree ∷ []) → ws ≡ words_of (row_at v tree)
+pub begins_there : (k j : RowPlan) (v : View) (tree : ℕ) (ws : List ℕ) → j ≡ k → Backs v (tree ∷ []) → ws ≡ words_of (row_at v tree)
     → slice_index ws 0 ≡ 0 → slice_index ws 17 ≡ 0 → slice_index ws 19 ≡ 100 → 0 < j.buffer → MayBegin k v tree
 begins_there k j v tree ws same b loaded owner link score room =
     let is = anchor_words v tree ws b loaded in
     record {
-      room = subst (λ (p : YardPlan). 0 < p.buffer) same room;
+      room = subst (λ (p : RowPlan). 0 < p.buffer) same room;
       mode = ap mode_of is ∙ (mode_tree ws owner ∙ ap TreeMode score);
       empty = ap (λ (l : List ℕ). (node_of l).left) is ∙ (is_left ws ∙ link);
     }
 
-pub appends_there : (k j : YardPlan) (v : View) (tree txn : ℕ) (ws : List ℕ) → j ≡ k → 0 < txn → Backs v (tree ∷ []) → ws ≡ words_of (row_at v tree)
+pub appends_there : (k j : RowPlan) (v : View) (tree txn : ℕ) (ws : List ℕ) → j ≡ k → 0 < txn → Backs v (tree ∷ []) → ws ≡ words_of (row_at v tree)
     → slice_index ws 0 ≡ txn → slice_index ws 20 < j.buffer → MayAppend k v tree txn (slice_index ws 20)
 appends_there k j v tree txn ws same more b loaded owner room = record {
-  room = subst (λ (p : YardPlan). slice_index ws 20 < p.buffer) same room;
+  room = subst (λ (p : RowPlan). slice_index ws 20 < p.buffer) same room;
   mode = ap mode_of (anchor_words v tree ws b loaded) ∙ mode_buffer ws txn (slice_index ws 20) more owner refl;
 }
 

@@ -7,7 +7,7 @@ use Rattle.lt_seq.specs.declared.event.Deed.TheVariants.{Ask}
 use Rattle.lt_seq.specs.declared.event.Reply.TheVariants.{Buffered}
 use Rattle.lt_seq.specs.declared.fault.Fault.{Fault}
 use Rattle.lt_seq.specs.declared.fault.Fault.TheVariants.{Busy, OutOfMemory, HistoryFull, OutOfLocks}
-use Rattle.lt_seq.specs.declared.plan.YardPlan.{YardPlan}
+use Rattle.lt_rows.specs.declared.row_plan.RowPlan.{RowPlan}
 use Rattle.lt_rows.specs.declared.view.View.{View}
 use Rattle.lt_rows.specs.declared.image.RowImage.{RowImage}
 use Rattle.lt_rows.specs.Nodes.{mode_of}
@@ -22,13 +22,13 @@ abbrev pub HoldsAnchor : View → ℕ → Type 0
 HoldsAnchor v tree = Backs v (tree ∷ [])
 
 -- the anchor shows an empty tree in which a buffer may begin
-pub record MayBegin (k : YardPlan) (v : View) (tree : ℕ) : Type 0 where
+pub record MayBegin (k : RowPlan) (v : View) (tree : ℕ) : Type 0 where
   pub room : 0 < k.buffer
   pub mode : mode_of (images v tree) ≡ TreeMode 100
   pub empty : (shown v [] tree).left ≡ 0
 
 -- or the buffer of this transaction, with so many rows, and room for one more
-pub record MayAppend (k : YardPlan) (v : View) (tree txn count : ℕ) : Type 0 where
+pub record MayAppend (k : RowPlan) (v : View) (tree txn count : ℕ) : Type 0 where
   pub room : count < k.buffer
   pub mode : mode_of (images v tree) ≡ Buffer txn count
 

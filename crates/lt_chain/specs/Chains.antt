@@ -8,7 +8,7 @@ use Rattle.lt_seq.specs.declared.event.Pair.{Pair}
 use Rattle.lt_seq.specs.declared.event.Mode.TheVariants.{Buffer}
 use Rattle.lt_seq.specs.History.{IsFront, after}
 use Rattle.lt_seq.specs.Pairs.{granted}
-use Rattle.lt_seq.specs.SeqPass.{plain}
+use Rattle.lt_rows.specs.Plan.{setting_of}
 use Rattle.lt_seq.specs.Table.{held_in, tree_at, is_whole}
 use Rattle.lt_forest.specs.Forest.{IsChain, IsRun, folded}
 use Rattle.lt_rows.specs.declared.view.View.{View}
@@ -56,7 +56,7 @@ pub record ReadsPairs (v : View) (tree : ℕ) (rows : List ℕ) (pairs : List He
   pub log : List Event
   pub seen : IsFront v.front log
   pub stood : Stood (woods v.plan) v log
-  pub of_tree : pairs ≡ held_in tree (tree_at (after (plain v.plan) log) tree).pairs
+  pub of_tree : pairs ≡ held_in tree (tree_at (after (setting_of v.plan) log) tree).pairs
 
 -- on its way along the chain: these rows are taken, and the link leads on
 pub record Walks (v : View) (tree owner count : ℕ) (rows : List ℕ) (link : ℕ) : Type 0 where

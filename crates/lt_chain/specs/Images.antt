@@ -2,7 +2,7 @@
 use Rattle.std.specs.Prelude.{◌≡◌, ◌≢◌, ◌⊎◌, ℕ, ◌+◌, ◌<◌, List, [], ◌∷◌, ◌++◌, ◌-◌, length, take, None, slice_index}
 use Rattle.lt_ranges.specs.Interval.{Interval}
 use Rattle.lt_forest.specs.Trees.{Node}
-use Rattle.lt_seq.specs.declared.plan.YardPlan.{YardPlan}
+use Rattle.lt_rows.specs.declared.row_plan.RowPlan.{RowPlan}
 use Rattle.lt_rows.specs.declared.view.View.{View}
 use Rattle.lt_rows.specs.declared.view.Row.{Row}
 use Rattle.lt_rows.specs.declared.image.RowImage.{RowImage}
@@ -13,7 +13,7 @@ use Rattle.lt_chain.specs.declared.images.Images.{Images}
 use Rattle.lt_chain.specs.Buffers.{MayBegin, MayAppend}
 
 -- the three rows are held, and these are their words, which count
-pub record HasImages (k : YardPlan) (v : View) (tree : ℕ) (i : Images) : Type 0 where
+pub record HasImages (k : RowPlan) (v : View) (tree : ℕ) (i : Images) : Type 0 where
   pub anchor : HasWords v i.anchor.row i.anchor.words
   pub pool : HasWords v i.pool.row i.pool.words
   pub row : HasWords v i.row.row i.row.words
@@ -47,7 +47,7 @@ abbrev pub chain_node : ℕ → Interval → ℕ → Node
 chain_node owner range next = record { owner = owner; range = range; left = next; right = 0 }
 
 -- a buffer may get one row more, of which it has so many: none where it is to begin
-abbrev pub MayAdd : YardPlan → View → ℕ → ℕ → ℕ → Type 0
+abbrev pub MayAdd : RowPlan → View → ℕ → ℕ → ℕ → Type 0
 MayAdd k v tree txn count = (MayBegin k v tree × (count ≡ 0)) ⊎ MayAppend k v tree txn count
 
 -- the images that put the vacant row at the front of the chain, for this transaction and range, as one row more than so many

@@ -4,7 +4,7 @@ use Rattle.std.proofs.lemmas.Bool.{eqb-true, ltb-true}
 use Rattle.std.proofs.lemmas.List.{length-map}
 use Rattle.std.specs.Prelude.{None, nat_eq, nat_lt}
 use Rattle.lt_ranges.specs.Interval.{Interval}
-use Rattle.lt_seq.specs.declared.plan.YardPlan.{YardPlan}
+use Rattle.lt_rows.specs.declared.row_plan.RowPlan.{RowPlan}
 use Rattle.lt_seq.specs.declared.event.Mode.{Mode}
 use Rattle.lt_seq.specs.declared.event.Mode.TheVariants.{Tree as TreeMode, Buffer}
 use Rattle.lt_seq.specs.Table.{is_buffered}
@@ -65,14 +65,14 @@ anchor_held v tree image p = record {
 }
 
 module _ (v : View) (tree : ℕ) (image : RowImage) (a : Anchor) (p : IsPrepared v tree image) (mode : ShowsMode (mode_of image.words) a) where
-  pub may_begin : (k : YardPlan) (buffer txn : ℕ) → buffer ≡ k.buffer → a.top ≡ (node_of image.words).left → Shows buffer txn a Beginning → MayBegin k v tree
+  pub may_begin : (k : RowPlan) (buffer txn : ℕ) → buffer ≡ k.buffer → a.top ≡ (node_of image.words).left → Shows buffer txn a Beginning → MayBegin k v tree
   may_begin k buffer txn same top s = record {
     room = subst (λ (n : ℕ). 0 < n) same s.3;
     mode = ap mode_of p.0.2 ∙ (shows_tree (mode_of image.words) a mode s.0 ∙ ap TreeMode s.2);
     empty = ap (λ (l : List ℕ). (node_of l).left) p.0.2 ∙ (sym top ∙ s.1);
   }
 
-  pub may_append : (k : YardPlan) (buffer txn : ℕ) → buffer ≡ k.buffer → Shows buffer txn a Own → MayAppend k v tree txn a.buffered
+  pub may_append : (k : RowPlan) (buffer txn : ℕ) → buffer ≡ k.buffer → Shows buffer txn a Own → MayAppend k v tree txn a.buffered
   may_append k buffer txn same s = record {
     room = subst (λ (n : ℕ). a.buffered < n) same s.2;
     mode = ap mode_of p.0.2 ∙ (shows_buffer (mode_of image.words) a mode s.0 ∙ ap (λ (t : ℕ). Buffer t a.buffered) s.1);

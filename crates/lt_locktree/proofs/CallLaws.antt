@@ -5,7 +5,7 @@ use Rattle.lt_seq.specs.declared.event.Event.{Event}
 use Rattle.lt_seq.specs.declared.event.Receipt.{Receipt}
 use Rattle.lt_seq.specs.Table.{Setting, TreeState, opening, step}
 use Rattle.lt_seq.specs.History.{after, calls_from, IsNext, IsLegal, IsLegalFrom}
-use Rattle.lt_seq.specs.SeqPass.{plain}
+use Rattle.lt_rows.specs.Plan.{setting_of}
 use Rattle.lt_seq.proofs.HistoryLaws.{calls-append, calls_more}
 use Rattle.lt_rows.specs.declared.view.View.{View}
 use Rattle.lt_rows.specs.Handles.{Commits}
@@ -50,7 +50,7 @@ one_call v w txn deed place made one pass =
 
 pub next_event : MakesNext
 next_event v w txn deed place made =
-    legal_last (plain v.plan) (v.front ++ made.rest) (event_of v txn deed) (subst (IsLegal (plain v.plan)) made.front made.legal)
+    legal_last (setting_of v.plan) (v.front ++ made.rest) (event_of v txn deed) (subst (IsLegal (setting_of v.plan)) made.front made.legal)
 
 pub deed_is_made : DeedIsMade
 deed_is_made v w a deed place (t, search, (u, plan, only, (x, committed, back))) number below =
@@ -69,7 +69,7 @@ deed_is_made v w a deed place (t, search, (u, plan, only, (x, committed, back)))
       own = λ number low high. none_of_both number seen.rest c.0 (seen.own number low high) (c.1.own number low high);
       place_is = c.1.place_is ∙ ap (λ (es : List Event). v.plan.first + length es) log;
       front = front ∙ (λ j. log j ++ event j ∷ []);
-      legal = subst (IsLegal (plain v.plan)) (sym front) (c.3 below);
+      legal = subst (IsLegal (setting_of v.plan)) (sym front) (c.3 below);
       same = (ap (λ (y : View). y.plan) back ∙ ap (λ (y : View). y.plan) c.2, ap (λ (y : View). y.mark) back ∙ ap (λ (y : View). y.mark) c.2, ap (λ (y : View). y.numbers) back ∙ ap (λ (y : View). y.numbers) c.2, ap (λ (y : View). y.rights) back ∙ ap (λ (y : View). y.rights) c.2);
       met = omega (arith, met, more);
     }

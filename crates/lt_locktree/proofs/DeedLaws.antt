@@ -6,7 +6,7 @@ use Rattle.lt_seq.specs.declared.event.Reply.TheVariants.{HeldBy}
 use Rattle.lt_seq.specs.declared.event.Mode.TheVariants.{Tree as TreeMode}
 use Rattle.lt_seq.specs.declared.event.Deed.TheVariants.{Ask, Who}
 use Rattle.lt_seq.specs.Pairs.{others}
-use Rattle.lt_seq.specs.SeqPass.{plain}
+use Rattle.lt_rows.specs.Plan.{setting_of}
 use Rattle.lt_seq.specs.Table.{is_buffered, pairs_by, reply_by}
 use Rattle.lt_forest.specs.Trees.{pairs_in}
 use Rattle.lt_forest.specs.Cuts.{bare}
@@ -23,7 +23,7 @@ who_commits v tree asked here rows hangs more e named l closed lt interval pass 
     stays v tree asked here rows hangs more l closed lt interval e.txn
     (Who tree asked named (others named asked (pairs_in (shown v []) (bare l.sub)))) refl refl interval
     (λ s are. record { was_tree = tt; is_tree = tt; pairs = refl; mode = refl; replies = refl; question = interval })
-    (λ s h lawful on. side_shows_who (plain v.plan) e.txn tree s named asked (shown v []) (shown v []) h l.sub l.sub lawful interval on
+    (λ s h lawful on. side_shows_who (setting_of v.plan) e.txn tree s named asked (shown v []) (shown v []) h l.sub l.sub lawful interval on
     refl refl)
     e pass refl (is ∙ ap (λ (ps : List Pair). Who tree asked named (others named asked ps)) same)
 
@@ -55,6 +55,6 @@ held_ask_commits v tree asked here rows hangs more e o os l closed lt interval p
       replies = ap (Ask tree asked) (ap (reply_of e.txn asked mine) nb ∙ ap reply_by owners);
       question = interval;
     })
-    (λ s h lawful on. side_shows_held (plain v.plan) e.txn tree s asked (shown v []) (shown v []) h l.sub l.sub o os lawful interval on
+    (λ s h lawful on. side_shows_held (setting_of v.plan) e.txn tree s asked (shown v []) (shown v []) h l.sub l.sub o os lawful interval on
     owners refl refl)
     e pass refl is

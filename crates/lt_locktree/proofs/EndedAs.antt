@@ -1,7 +1,7 @@
 -- What the sequential table makes of a buffer that was taken whole, by a deed that ends it.
 use Rattle.std.proofs.Common.{◌≡◌, ◌≢◌, ℕ, ◌+◌, ◌≤◌, Bool, false, List, [], ◌∷◌, length, sym, ap, ◌∙◌, arith}
 use Rattle.lt_ranges.specs.Interval.{Interval, IsInterval}
-use Rattle.lt_seq.specs.declared.plan.YardPlan.{YardPlan}
+use Rattle.lt_rows.specs.declared.row_plan.RowPlan.{RowPlan}
 use Rattle.lt_seq.specs.declared.event.Deed.TheVariants.{Ask, Free, Who}
 use Rattle.lt_seq.specs.declared.event.Mode.TheVariants.{Tree as TreeMode, Buffer}
 use Rattle.lt_seq.specs.declared.event.Pair.{Pair}
@@ -55,7 +55,7 @@ module _ (v w : View) (tree : ℕ) (olds : List ℕ) (pairs : List Pair) (t : Ha
     ask_ends reply new full reply_is new_is =
         let are : pairs ≡ buffered_pairs w owner olds = t.pairs_are owner count mode in
         let full_here : is_buffered w.plan.buffer a.txn ps (Buffer owner count) ≡ false =
-        ap (λ (k : YardPlan). is_buffered k.buffer a.txn ps (Buffer owner count)) (rows_plan v w only) ∙ full in
+        ap (λ (k : RowPlan). is_buffered k.buffer a.txn ps (Buffer owner count)) (rows_plan v w only) ∙ full in
         let new_here : new ≡ pairs_by (others a.txn a.range ps) a.txn a.range ps =
         new_is ∙ ap (λ (xs : List Pair). pairs_by (others a.txn a.range xs) a.txn a.range xs) are in
         let reply_here : reply ≡ reply_by (others a.txn a.range ps) =

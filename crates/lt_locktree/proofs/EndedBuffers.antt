@@ -8,7 +8,7 @@ use Rattle.std.proofs.lemmas.List.Elements.{All-from_get_or}
 use Rattle.lt_seq.specs.declared.event.Event.{Event}
 use Rattle.lt_seq.specs.declared.event.Mode.TheVariants.{Buffer}
 use Rattle.lt_seq.specs.declared.event.Pair.{Pair}
-use Rattle.lt_seq.specs.SeqPass.{plain}
+use Rattle.lt_rows.specs.Plan.{setting_of}
 use Rattle.lt_seq.specs.Table.{TreeState, tree_after, replied}
 use Rattle.lt_forest.specs.Buffers.{buffered_state}
 use Rattle.lt_forest.specs.Counts.{one_if, times}
@@ -87,8 +87,8 @@ ends_on v w tree owner count olds score pairs e b keeps only h =
       own = h.own ∙ sym mark;
       tree_is = h.tree_is;
       question = h.question;
-      after = (λ j. tree_after (plain (plan j)) e.txn e.deed (state j)) ∙ h.after;
-      reply = (λ j. replied (plain (plan j)) e.txn e.deed (state j)) ∙ h.reply;
+      after = (λ j. tree_after (setting_of (plan j)) e.txn e.deed (state j)) ∙ h.after;
+      reply = (λ j. replied (setting_of (plan j)) e.txn e.deed (state j)) ∙ h.reply;
     }
 
 -- the pool's anchor is held where it is planned

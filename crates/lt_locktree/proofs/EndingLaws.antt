@@ -8,7 +8,7 @@ use Rattle.lt_seq.specs.declared.event.Pair.{Pair}
 use Rattle.lt_seq.specs.declared.event.Reply.{Reply}
 use Rattle.lt_seq.specs.declared.event.Reply.TheVariants.{Granted, HeldBy}
 use Rattle.lt_seq.specs.Pairs.{others, granted, freed, count_freed, joined}
-use Rattle.lt_seq.specs.SeqPass.{plain}
+use Rattle.lt_rows.specs.Plan.{setting_of}
 use Rattle.lt_seq.specs.Table.{TreeState, tree_of, after_ask, after_free, pairs_by, reply_by, raised}
 use Rattle.lt_forest.specs.declared.part.PartRow.{PartRow}
 use Rattle.lt_forest.specs.Counts.{times}
@@ -165,7 +165,7 @@ pub join_ends_buffer : JoinEndsBuffer
 join_ends_buffer v tree owner count olds taken given rows plan e change buffer lt lays over pool only pairs now is pass change_is licence =
     let ps : List Pair = buffered_pairs v owner olds in
     let deed : Deed = Join tree (length ps) (length rows) in
-    let long : length rows ≡ length (joined (plain v.plan).marks ps) = sym (length-pairs rows) ∙ ap length pairs in
+    let long : length rows ≡ length (joined (setting_of v.plan).marks ps) = sym (length-pairs rows) ∙ ap length pairs in
     subst (λ (d : Deed). IsCommit v.plan v (record { pass = e.pass; txn = e.txn; deed = d }) plan change) (sym is)
     (laid_buffer_commits v owner count olds taken given rows plan (record { pass = e.pass; txn = e.txn; deed = deed }) change
     buffer lt tt lays over pool only pairs

@@ -1,7 +1,7 @@
 -- What a pass holds of the pool beside a buffer's chain.
 use Rattle.std.proofs.Common.{◌≡◌, ℕ, ◌+◌, ◌<◌, ◌≤◌, List, ◌∷◌, length, sym, subst, arith}
 use Rattle.std.specs.Prelude.{slice_index}
-use Rattle.lt_seq.specs.declared.plan.YardPlan.{YardPlan}
+use Rattle.lt_rows.specs.declared.row_plan.RowPlan.{RowPlan}
 use Rattle.lt_forest.specs.Counts.{times}
 use Rattle.lt_forest.proofs.SameRows.{one_here}
 use Rattle.lt_rows.specs.declared.image.RowImage.{RowImage}
@@ -19,7 +19,7 @@ use Rattle.lt_locktree.specs.EndedBuffers.{HoldsEnds}
 use Rattle.lt_locktree.specs.PlannedParts.{IsLoaded}
 use Rattle.lt_locktree.proofs.HeldRows.{first_held, backs_taken, keeps_taken, loaded_on}
 
-pub pool_inside : (k : YardPlan) → k.trees < rows_of k
+pub pool_inside : (k : RowPlan) → k.trees < rows_of k
 unfolding rows_of
 pool_inside k = omega arith
 
@@ -46,7 +46,7 @@ holds_pool v w u tree rows pool lt h teaches s same row words long =
       backs = subst (λ (n : ℕ). Backs w (n ∷ tree ∷ rows)) (sym row) (backs_taken v.plan.trees v w (tree ∷ rows) s apart h.backs);
       kept = kept;
       shows = shows_on v w tree rows h.backs kept h.shows;
-      loaded = subst (λ (p : YardPlan). IsLoaded w p.trees pool) (sym plan) (record { row = row; words = words; long = long });
+      loaded = subst (λ (p : RowPlan). IsLoaded w p.trees pool) (sym plan) (record { row = row; words = words; long = long });
     }
 
 module _ (v w : View) (tree : ℕ) (rows : List ℕ) (pairs : ℕ) (pool anchor : RowImage) (h : HoldsChain v tree rows)
@@ -74,7 +74,7 @@ module _ (v w : View) (tree : ℕ) (rows : List ℕ) (pairs : ℕ) (pool anchor 
         anchor = loaded_on v u tree anchor all_kept (first_held v tree rows h.backs) loaded;
         room = many;
         spare = (
-          subst (λ (k : YardPlan). IsLoaded u k.trees pool) (sym plan)
+          subst (λ (k : RowPlan). IsLoaded u k.trees pool) (sym plan)
               (loaded_on w u w.plan.trees pool kept
               (p.backs.keeps.held w.plan.trees
               (subst (λ (n : ℕ). 0 < times n (pool.row ∷ tree ∷ rows)) p.loaded.row (let o = one_here pool.row in omega arith)))

@@ -11,7 +11,7 @@ use Rattle.lt_forest.proofs.Chains.{chain_one}
 use Rattle.lt_forest.proofs.ForestLaws.{as_chain, none_else, one_place}
 use Rattle.lt_forest.proofs.BuffersInView.{true_chain}
 use Rattle.lt_seq.specs.History.{after}
-use Rattle.lt_seq.specs.SeqPass.{plain}
+use Rattle.lt_rows.specs.Plan.{setting_of}
 use Rattle.lt_seq.specs.Table.{tree_at}
 use Rattle.lt_rows.specs.declared.image.RowImage.{RowImage}
 use Rattle.lt_rows.specs.declared.view.View.{View}
@@ -63,7 +63,7 @@ module _ (v : View) (tree : ℕ) (rows : List ℕ) (pool : RowImage) (lt : tree 
       let leads = true_chain tree rows agree chain_held shows.chain in
       let mode = sym (mode_held v [] st.contents st.agrees tree (chain_held tree (let o = one_here tree in omega arith)))
       ∙ shows.buffer.2 in
-      let k = as_chain (nodes st.contents) (nodes st.contents tree).left (f.tree tree) (tree_at (after (plain v.plan) teaches.0) tree).pairs
+      let k = as_chain (nodes st.contents) (nodes st.contents tree).left (f.tree tree) (tree_at (after (setting_of v.plan) teaches.0) tree).pairs
       (modes st.contents tree) shows.buffer.0 shows.buffer.1 mode (st.shape.forest.grown tree lt) in
       let same : k.rows ≡ rows = chain_one (nodes st.contents) (nodes st.contents tree).left k.rows rows k.leads leads in
       let there : times q (rows_at (f.tree tree)) ≡ times q rows = ap (λ (g : Growth). times q (rows_at g)) k.is ∙ ap (times q) same in

@@ -5,7 +5,7 @@ use mathlib.Core.Logic.{dite}
 use native.Mathlib.Decide.{ℕ_discrete}
 use Rattle.lt_ranges.specs.Interval.{Interval, IsInterval}
 use Rattle.lt_seq.specs.declared.event.Deed.TheVariants.{Free}
-use Rattle.lt_seq.specs.declared.plan.YardPlan.{YardPlan}
+use Rattle.lt_rows.specs.declared.row_plan.RowPlan.{RowPlan}
 use Rattle.lt_seq.specs.Pairs.{count_freed}
 use Rattle.lt_seq.specs.Table.{raised}
 use Rattle.lt_forest.specs.declared.part.PartRow.{PartRow}
@@ -51,7 +51,7 @@ pub left_count : (txn : ℕ) (range : Interval) (rows : List PartRow) (hangs : L
 left_count txn range rows hangs left is =
     count_is txn range rows ∙ (length-numbers (freed_rows txn range rows) ∙ ap (λ (rs : List PartRow). length rs) (sym is.gone_are))
 
-module _ (pass : RowPass) (k : YardPlan) (tree : ℕ) (asked : Interval) (here : ℕ) (rows : List PartRow) (hangs more : List ℕ)
+module _ (pass : RowPass) (k : RowPlan) (tree : ℕ) (asked : Interval) (here : ℕ) (rows : List PartRow) (hangs more : List ℕ)
     (l : IsLockedWith (knows pass) tree asked here rows hangs more) (closed : IsClosed asked rows hangs)
     (plan_is : (knows pass).plan ≡ k) (lt : tree < k.trees) (a : Asking) (of : IsOf pass tree asked a) (interval : IsInterval a.range)
     (marked : (knows pass).mark ≡ pass.number + 1) (pool_in : 0 < times (knows pass).plan.trees more) (first : Bool)
@@ -59,7 +59,7 @@ module _ (pass : RowPass) (k : YardPlan) (tree : ℕ) (asked : Interval) (here :
     (loaded : IsLoaded (knows pass) here stays) (pool_loaded : IsLoaded (knows pass) (knows pass).plan.trees pool) (left : LeftOut)
     (is : IsLeftOut a.txn a.range rows hangs left) (plan : List RowImage) (plans : PlansFreed a.tree a.range (scored first stays) pool left plan) where
   lt_here : tree < (knows pass).plan.trees
-  lt_here = subst (λ (p : YardPlan). tree < p.trees) (sym plan_is) lt
+  lt_here = subst (λ (p : RowPlan). tree < p.trees) (sym plan_is) lt
 
   asked_is : IsInterval asked
   asked_is = subst IsInterval of.2 interval

@@ -8,7 +8,7 @@ use Rattle.lt_seq.specs.declared.event.Mode.{Mode}
 use Rattle.lt_seq.specs.declared.event.Mode.TheVariants.{Tree as TreeMode}
 use Rattle.lt_seq.specs.declared.event.Deed.TheVariants.{Free}
 use Rattle.lt_seq.specs.Pairs.{is_own, freed, count_freed}
-use Rattle.lt_seq.specs.SeqPass.{plain}
+use Rattle.lt_rows.specs.Plan.{setting_of}
 use Rattle.lt_seq.specs.Table.{Setting, raised}
 use Rattle.lt_forest.specs.declared.part.PartRow.{PartRow}
 use Rattle.lt_forest.specs.Counts.{times}
@@ -111,12 +111,12 @@ free_commits v tree asked here rows rows' hangs hangs' more given first plan e c
     (λ q some. sub_held v tree asked here rows hangs more l closed lt q (let s = same.each q in omega arith))
     (left_out_loosens keep c d l.sub laid.new lawful left) same pool
     (subst (λ (ns : List ℕ). PlansOnly (here ∷ v.plan.trees ∷ ns) (planned_rows plan)) (sym (append-nil (in_order (bare l.sub)) ∙ numbers_is)) only)
-    (λ at was. below_shows (plain v.plan) e.txn tree asked first c d l.sub laid.new (mode_before v plan tree) (mode_after v plan tree) l.score was
+    (λ at was. below_shows (setting_of v.plan) e.txn tree asked first c d l.sub laid.new (mode_before v plan tree) (mode_after v plan tree) l.score was
     (subst (RaisesAnchor v plan tree first) at raises) interval pairs)
     (λ s h b full whole on_side beside_same.
-    subst (λ (m : Mode). ShowsDeed (plain v.plan) e.txn (Free tree asked first (count_freed e.txn asked mine)) c d (beside c h l.sub) (beside d h laid.new) (TreeMode s) m)
+    subst (λ (m : Mode). ShowsDeed (setting_of v.plan) e.txn (Free tree asked first (count_freed e.txn asked mine)) c d (beside c h l.sub) (beside d h laid.new) (TreeMode s) m)
     (score_stays l.place first l.score s b keeps full)
-    (side_shows_free (plain v.plan) e.txn tree s asked first c d h l.sub laid.new whole interval on_side pairs beside_same))
+    (side_shows_free (setting_of v.plan) e.txn tree s asked first c d h l.sub laid.new whole interval on_side pairs beside_same))
     e change pass refl (is ∙ ap (λ (ps : List Pair). Free tree asked first (count_freed e.txn asked ps)) same_pairs)
     (λ k. counted change (count_freed e.txn asked (map row_pair rows)) (length (in_order (bare l.sub))) (length (in_order (bare laid.new))) k counts
     (let s = same.all in let n = count_is e.txn asked rows in let t = these.all in omega arith))

@@ -13,7 +13,7 @@ use Rattle.lt_seq.specs.declared.event.Mode.TheVariants.{Tree as TreeMode}
 use Rattle.lt_seq.specs.declared.event.Reply.{Reply}
 use Rattle.lt_seq.specs.declared.event.Reply.TheVariants.{Granted, Buffered}
 use Rattle.lt_seq.specs.Pairs.{IsLawful, others, granted}
-use Rattle.lt_seq.specs.SeqPass.{plain}
+use Rattle.lt_rows.specs.Plan.{setting_of}
 use Rattle.lt_seq.specs.Table.{TreeState, is_buffered, buffered_mode, pairs_by, reply_by, tree_of}
 use Rattle.lt_forest.specs.declared.part.PartRow.{PartRow}
 use Rattle.lt_forest.specs.Counts.{times, one_if}
@@ -130,7 +130,7 @@ module _ (v : View) (tree : ℕ) (asked : Interval) (here : ℕ) (rows : List Pa
     -- below the anchor
 
     module _ (s : ℕ) (nb : is_buffered v.plan.buffer txn mine (TreeMode s) ≡ false) where
-      shows_below : ShowsDeed (plain v.plan) txn (Ask tree asked Granted) c d l.sub new (TreeMode s) (TreeMode s)
+      shows_below : ShowsDeed (setting_of v.plan) txn (Ask tree asked Granted) c d l.sub new (TreeMode s) (TreeMode s)
       shows_below = record {
         was_tree = tt;
         is_tree = tt;
@@ -215,14 +215,14 @@ module _ (v : View) (tree : ℕ) (asked : Interval) (here : ℕ) (rows : List Pa
         let now : mode_after v plan tree ≡ TreeMode l.score =
         subst (λ (n : ℕ). mode_after v plan n ≡ mode_before v plan n) is.0 b ∙ was in
         subst (λ (t : Top). ShowsFor v.plan v plan txn (Ask tree asked Granted) t l.score l.sub new) (sym is.1)
-        (subst (λ (m : Mode × Mode). ShowsDeed (plain v.plan) txn (Ask tree asked Granted) c d l.sub new m.0 m.1)
+        (subst (λ (m : Mode × Mode). ShowsDeed (setting_of v.plan) txn (Ask tree asked Granted) c d l.sub new m.0 m.1)
         (λ j. (sym was j, sym now j)) (shows_below l.score (no_buffer is.0 l.score was)))
     shown_by on_left e is knows b on lawful =
         subst (λ (t : Top). ShowsFor v.plan v plan txn (Ask tree asked Granted) t l.score (beside c (left_of here) l.sub) (beside d (left_of here) new))
         (sym is.1)
         (inr (
           no_anchor (far_left e),
-          λ s full. side_shows_granted (plain v.plan) txn tree s asked c d (left_of here) l.sub new lawful interval
+          λ s full. side_shows_granted (setting_of v.plan) txn tree s asked c d (left_of here) l.sub new lawful interval
               on.0 none pairs b.0,
         ))
     shown_by on_right e is knows b on lawful =
@@ -230,7 +230,7 @@ module _ (v : View) (tree : ℕ) (asked : Interval) (here : ℕ) (rows : List Pa
         (sym is.1)
         (inr (
           no_anchor (far_right e),
-          λ s full. side_shows_granted (plain v.plan) txn tree s asked c d (right_of here) l.sub new lawful interval
+          λ s full. side_shows_granted (setting_of v.plan) txn tree s asked c d (right_of here) l.sub new lawful interval
               on.0 none pairs b.0,
         ))
 

@@ -5,7 +5,7 @@ use Rattle.std.proofs.lemmas.List.Elements.{All-from_get_or}
 use Rattle.lt_ranges.specs.Interval.{Interval, IsInterval}
 use Rattle.lt_seq.specs.declared.event.Deed.TheVariants.{Ask}
 use Rattle.lt_seq.specs.declared.event.Reply.TheVariants.{Granted}
-use Rattle.lt_seq.specs.declared.plan.YardPlan.{YardPlan}
+use Rattle.lt_rows.specs.declared.row_plan.RowPlan.{RowPlan}
 use Rattle.lt_seq.specs.Pairs.{is_own}
 use Rattle.lt_forest.specs.declared.part.PartRow.{PartRow}
 use Rattle.lt_forest.specs.Counts.{one_if, times}
@@ -59,11 +59,11 @@ all_held xs (p ∷ plan) f = (
   all_held xs plan (λ q some. f q (omega arith)),
 )
 
-module _ (pass : RowPass) (k : YardPlan) (tree : ℕ) (asked : Interval) (here : ℕ) (rows : List PartRow) (hangs more : List ℕ)
+module _ (pass : RowPass) (k : RowPlan) (tree : ℕ) (asked : Interval) (here : ℕ) (rows : List PartRow) (hangs more : List ℕ)
     (l : IsLockedWith (knows pass) tree asked here rows hangs more) (closed : IsClosed asked rows hangs)
     (plan_is : (knows pass).plan ≡ k) (lt : tree < k.trees) where
   lt_here : tree < (knows pass).plan.trees
-  lt_here = subst (λ (p : YardPlan). tree < p.trees) (sym plan_is) lt
+  lt_here = subst (λ (p : RowPlan). tree < p.trees) (sym plan_is) lt
 
   pub hangs_between : length hangs ≡ length rows + 1
   hangs_between =

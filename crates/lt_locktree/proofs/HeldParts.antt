@@ -2,7 +2,7 @@
 use Rattle.std.proofs.Common.{◌≡◌, ℕ, ◌<◌, List, [], map, sym, ap, ◌∙◌}
 use Rattle.lt_ranges.specs.Interval.{Interval}
 use Rattle.lt_seq.specs.Pairs.{IsLawful}
-use Rattle.lt_seq.specs.SeqPass.{plain}
+use Rattle.lt_rows.specs.Plan.{setting_of}
 use Rattle.lt_seq.proofs.LawfulLaws.{sound_history}
 use Rattle.lt_forest.specs.declared.part.PartRow.{PartRow}
 use Rattle.lt_forest.specs.Trees.{pairs_in}
@@ -32,7 +32,7 @@ module _ (v : View) (tree : ℕ) (asked : Interval) (here : ℕ) (rows : List Pa
       let st = l.teaches.2 in
       let log = l.teaches.0 in
       held_part_is_lawful (has v) (shown v []) v.plan.trees (rows_of v.plan) (nodes st.contents) (modes st.contents) _ st.forest tree
-      l.top whole_cut st.shape.forest (sound_history (plain v.plan) log st.shape.legal) lt
+      l.top whole_cut st.shape.forest (sound_history (setting_of v.plan) log st.shape.legal) lt
       (mode_top v.plan v [] st.forest st.contents log st.shape st.agrees st.gaps tree lt l.top l.score part_held.top_held l.knows)
       (seen_top v.plan v [] st.forest st.contents log st.shape st.agrees st.gaps tree lt l.top l.score l.knows)
       (view_is v [] st.contents st.agrees).before part_held
@@ -43,7 +43,7 @@ module _ (v : View) (tree : ℕ) (asked : Interval) (here : ℕ) (rows : List Pa
       let st = l.teaches.2 in
       let log = l.teaches.0 in
       held_part_is_further (has v) (shown v []) v.plan.trees (rows_of v.plan) (nodes st.contents) (modes st.contents) _ st.forest tree
-      l.top whole_cut q st.shape.forest (sound_history (plain v.plan) log st.shape.legal) lt
+      l.top whole_cut q st.shape.forest (sound_history (setting_of v.plan) log st.shape.legal) lt
       (mode_top v.plan v [] st.forest st.contents log st.shape st.agrees st.gaps tree lt l.top l.score part_held.top_held l.knows)
       (seen_top v.plan v [] st.forest st.contents log st.shape st.agrees st.gaps tree lt l.top l.score l.knows)
       (view_is v [] st.contents st.agrees).before part_held some

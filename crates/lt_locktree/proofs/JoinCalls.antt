@@ -4,7 +4,7 @@ use Rattle.lt_seq.specs.declared.event.Event.{Event}
 use Rattle.lt_seq.specs.declared.event.Deed.TheVariants.{Join}
 use Rattle.lt_seq.specs.declared.event.JoinNote.{JoinNote}
 use Rattle.lt_seq.specs.declared.fault.Fault.{Fault}
-use Rattle.lt_seq.specs.SeqPass.{plain}
+use Rattle.lt_rows.specs.Plan.{setting_of}
 use Rattle.lt_seq.specs.Yard.{note_after}
 use Rattle.lt_rows.specs.declared.view.View.{View}
 use Rattle.lt_tree.specs.States.{OnlyRows, IsRefused}
@@ -35,7 +35,7 @@ join_is_made v w a note (deed, before, front, is) number below =
     let made = deed_is_made v w a (Join a.tree note.before note.after) note.place (v, seen_same v, deed) number below in
     record {
       made = made;
-      note_is = is ∙ ap (λ (log : List Event). note_after (plain v.plan) log a.tree)
+      note_is = is ∙ ap (λ (log : List Event). note_after (setting_of v.plan) log a.tree)
           (same_before before (v.front ++ made.rest) _ _ (sym front ∙ made.front));
     }
 

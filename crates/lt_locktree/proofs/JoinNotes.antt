@@ -5,10 +5,10 @@ use Rattle.lt_seq.specs.declared.event.Event.{Event}
 use Rattle.lt_seq.specs.declared.event.JoinNote.{JoinNote}
 use Rattle.lt_seq.specs.declared.event.Pair.{Pair}
 use Rattle.lt_seq.specs.declared.event.Deed.TheVariants.{Join}
-use Rattle.lt_seq.specs.declared.plan.YardPlan.{YardPlan}
+use Rattle.lt_rows.specs.declared.row_plan.RowPlan.{RowPlan}
 use Rattle.lt_seq.specs.History.{after}
 use Rattle.lt_seq.specs.Pairs.{joined}
-use Rattle.lt_seq.specs.SeqPass.{plain}
+use Rattle.lt_rows.specs.Plan.{setting_of}
 use Rattle.lt_seq.specs.Table.{tree_at, held_in}
 use Rattle.lt_seq.specs.Yard.{note_after}
 use Rattle.lt_forest.specs.Cuts.{Cut}
@@ -46,19 +46,19 @@ whole_tree_has_rows v tree asked here rows hangs more log l closed all lt top st
 
 -- A join that was made with rows that show the tree's pairs, whatever the history, has this note.
 pub noted : (v u w : View) (a : Asking) (plan : List RowImage) (note : JoinNote) (pairs : List Pair) → OnlyRows v u
-    → ((log : List Event) → Stood (woods u.plan) u log → pairs ≡ (tree_at (after (plain u.plan) log) a.tree).pairs)
+    → ((log : List Event) → Stood (woods u.plan) u log → pairs ≡ (tree_at (after (setting_of u.plan) log) a.tree).pairs)
     → Makes u w plan (asked_event a (Join a.tree note.before note.after)) note.place
-    → note.tree ≡ a.tree → note.before ≡ length pairs → note.after ≡ length (joined [] pairs)
-    → note.pairs ≡ held_in a.tree (joined [] pairs) → MakesJoin v w a note
+    → note.tree ≡ a.tree → note.before ≡ length pairs → note.after ≡ length (joined v.plan.marks pairs)
+    → note.pairs ≡ held_in a.tree (joined v.plan.marks pairs) → MakesJoin v w a note
 noted v u w a plan note pairs only shows makes tree_is before_is after_is pairs_are =
     let log : List Event = u.front ++ makes.1.0 in
     let plan_is : u.plan ≡ v.plan = rows_plan v u only in
-    let is : pairs ≡ (tree_at (after (plain v.plan) log) a.tree).pairs =
-    shows log makes.1.1.stood ∙ ap (λ (k : YardPlan). (tree_at (after (plain k) log) a.tree).pairs) plan_is in
-    let place : note.place ≡ v.plan.first + length log = makes.1.1.place_is ∙ ap (λ (k : YardPlan). k.first + length log) plan_is in
+    let is : pairs ≡ (tree_at (after (setting_of v.plan) log) a.tree).pairs =
+    shows log makes.1.1.stood ∙ ap (λ (k : RowPlan). (tree_at (after (setting_of k) log) a.tree).pairs) plan_is in
+    let place : note.place ≡ v.plan.first + length log = makes.1.1.place_is ∙ ap (λ (k : RowPlan). k.first + length log) plan_is in
     let before = before_is ∙ ap (λ (ps : List Pair). length ps) is in
-    let after = after_is ∙ ap (λ (ps : List Pair). length (joined [] ps)) is in
-    let held = pairs_are ∙ ap (λ (ps : List Pair). held_in a.tree (joined [] ps)) is in (
+    let after = after_is ∙ ap (λ (ps : List Pair). length (joined v.plan.marks ps)) is in
+    let held = pairs_are ∙ ap (λ (ps : List Pair). held_in a.tree (joined v.plan.marks ps)) is in (
       (u, plan, only, makes),
       log,
       ap (λ (x : View). x.front) makes.2 ∙ ap (λ (x : View). x.front) makes.1.2,
@@ -68,4 +68,4 @@ noted v u w a plan note pairs only shows makes tree_is before_is after_is pairs_
 -- The same of a search that took rows before.
 pub join_on : (v w u : View) (a : Asking) (note : JoinNote) → OnlyRows v w → MakesJoin w u a note → MakesJoin v u a note
 join_on v w u a note only ((x, plan, more, makes), log, front, is) =
-    ((x, plan, rows_on v w x only more, makes), log, front, is ∙ ap (λ (k : YardPlan). note_after (plain k) log a.tree) (rows_plan v w only))
+    ((x, plan, rows_on v w x only more, makes), log, front, is ∙ ap (λ (k : RowPlan). note_after (setting_of k) log a.tree) (rows_plan v w only))

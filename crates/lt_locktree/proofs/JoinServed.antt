@@ -5,14 +5,15 @@ use Rattle.std.proofs.lemmas.List.{length-map}
 use Rattle.std.specs.Prelude.{pos, ℤ, ◌+ℤ◌, nat_eq}
 use mathlib.Core.Logic.{dite}
 use native.Mathlib.Decide.{ℕ_discrete}
+use Rattle.lt_ranges.specs.declared.key.Key.{Key}
 use Rattle.lt_ranges.specs.Interval.{Interval, whole}
 use Rattle.lt_seq.specs.declared.event.Deed.TheVariants.{Join}
-use Rattle.lt_seq.specs.declared.plan.YardPlan.{YardPlan}
+use Rattle.lt_rows.specs.declared.row_plan.RowPlan.{RowPlan}
 use Rattle.lt_seq.specs.declared.event.Pair.{Pair}
 use Rattle.lt_seq.specs.Pairs.{joined}
 use Rattle.lt_forest.specs.declared.part.PartRow.{PartRow}
 use Rattle.lt_forest.specs.Counts.{one_if, times}
-use Rattle.lt_forest.specs.Parts.{row_pair}
+use Rattle.lt_forest.specs.Parts.{row_pair, numbers}
 use Rattle.lt_forest.specs.Views.{IsIn}
 use Rattle.lt_rows.specs.declared.image.RowImage.{RowImage}
 use Rattle.lt_rows.specs.declared.pass.RowPass.{RowPass}
@@ -25,9 +26,11 @@ use Rattle.lt_tree.specs.Gathers.{below_top, IsLockedWith, IsClosed}
 use Rattle.lt_tree.proofs.ReleaseLaws.{anchor_top}
 use Rattle.lt_locktree.specs.declared.asking.Asking.{Asking}
 use Rattle.lt_locktree.specs.declared.leaving.LeftOut.{LeftOut}
+use Rattle.lt_locktree.specs.declared.rejoining.Rejoined.{Rejoined}
+use Rattle.lt_locktree.specs.LawsOfJoins.{StayOrGo}
 use Rattle.lt_locktree.specs.Given.{given_to}
 use Rattle.lt_locktree.specs.Leavings.{PlansFreed}
-use Rattle.lt_locktree.specs.Rejoined.{IsRejoinedPart}
+use Rattle.lt_locktree.specs.Rejoined.{IsRejoined, IsRejoinedPart}
 use Rattle.lt_rows.proofs.FirstAsk.{whole_is}
 use Rattle.lt_locktree.specs.Makes.{IsOf}
 use Rattle.lt_locktree.specs.PlannedParts.{PlansRows, IsLoaded, ShowsRow}
@@ -36,19 +39,20 @@ use Rattle.lt_locktree.proofs.JoinPlans.{join_times, join_plan_commits}
 use Rattle.lt_locktree.proofs.GrantedRuns.{numbers_are, length-numbers}
 use Rattle.lt_locktree.proofs.GrownServed.{all_held, is_there, row_small}
 
-module _ (pass : RowPass) (k : YardPlan) (tree : ℕ) (here : ℕ) (rows : List PartRow) (more : List ℕ)
+module _ (pass : RowPass) (k : RowPlan) (tree : ℕ) (here : ℕ) (rows : List PartRow) (more : List ℕ)
     (l : IsLockedWith (knows pass) tree whole here rows (replicate (length rows + 1) 0) more)
     (closed : IsClosed whole rows (replicate (length rows + 1) 0))
     (plan_is : (knows pass).plan ≡ k) (lt : tree < k.trees) (a : Asking) (of : IsOf pass tree whole a)
     (marked : (knows pass).mark ≡ pass.number + 1) (pool_in : 0 < times (knows pass).plan.trees more)
     (top : here ≡ tree) (stays pool : RowImage)
     (loaded : IsLoaded (knows pass) here stays) (pool_loaded : IsLoaded (knows pass) (knows pass).plan.trees pool) (left : LeftOut)
-    (is : IsRejoinedPart rows left) (plan : List RowImage) (plans : PlansFreed a.tree a.range stays pool left plan) where
+    (is : IsRejoinedPart (knows pass).plan.marks rows left)
+    (plan : List RowImage) (plans : PlansFreed a.tree a.range stays pool left plan) where
   abbrev hangs : List ℕ
   hangs = replicate (length rows + 1) 0
 
   lt_here : tree < (knows pass).plan.trees
-  lt_here = subst (λ (p : YardPlan). tree < p.trees) (sym plan_is) lt
+  lt_here = subst (λ (p : RowPlan). tree < p.trees) (sym plan_is) lt
 
   plans_here : PlansFreed tree whole stays pool left plan
   plans_here = subst (λ (x : ℕ × Interval). PlansFreed x.0 x.1 stays pool left plan) (λ j. (of.1 j, of.2 j)) plans
@@ -120,24 +124,34 @@ module _ (pass : RowPass) (k : YardPlan) (tree : ℕ) (here : ℕ) (rows : List 
   join_all change counts = (join_held, join_served change counts)
 
 -- the rows that stay have small numbers, as those before them
-pub joined_small : (pass : RowPass) (k : YardPlan) (tree here : ℕ) (asked : Interval) (rows : List PartRow) (hangs more : List ℕ)
+pub joined_small : (pass : RowPass) (k : RowPlan) (tree here : ℕ) (asked : Interval) (rows : List PartRow) (hangs more : List ℕ)
     → IsLockedWith (knows pass) tree asked here rows hangs more → IsClosed asked rows hangs → (knows pass).plan ≡ k → tree < k.trees
-    → (left : LeftOut) → IsRejoinedPart rows left → All (λ (r : PartRow). r.row < 2 ^ 32 - 1) left.part.rows.items
-joined_small pass k tree here asked rows hangs more l closed plan_is lt left is =
+    → (marks : List Key) (left : LeftOut) → IsRejoinedPart marks rows left → All (λ (r : PartRow). r.row < 2 ^ 32 - 1) left.part.rows.items
+joined_small pass k tree here asked rows hangs more l closed plan_is lt marks left is =
     let d : PartRow = record { row = 0; owner = 0; range = whole } in
     All-from_get_or (λ (r : PartRow). r.row < 2 ^ 32 - 1) left.part.rows.items d
     (λ i less. row_small pass k tree asked here rows hangs more l closed plan_is lt (get_or left.part.rows.items i d).row
     (let h = is_there left.part.rows.items i d less in let e = is.parted.each (get_or left.part.rows.items i d).row in omega arith))
 
+-- a part with the rows of a join, below which nothing hangs
+pub rejoined_part : (marks : List Key) (rows : List PartRow) (after : Rejoined) (left : LeftOut) → IsRejoined marks rows after
+    → left.part.rows.items ≡ after.rows.items → left.gone.items ≡ after.gone.items
+    → left.part.hangs.items ≡ replicate (length after.rows.items + 1) 0 → IsRejoinedPart marks rows left
+rejoined_part marks rows after left is rows_are gone_are bare = record {
+  pairs = ap (λ (rs : List PartRow). map row_pair rs) rows_are ∙ is.pairs;
+  parted = subst (λ (x : List PartRow × List PartRow). StayOrGo rows x.0 (numbers x.1)) (λ j. (sym rows_are j, sym gone_are j)) is.parted;
+  bare = bare ∙ ap (λ (rs : List PartRow). replicate (length rs + 1) 0) (sym rows_are);
+}
+
 -- how many rows there were before
-pub rows_before : (rows : List PartRow) (left : LeftOut) → IsRejoinedPart rows left
+pub rows_before : (marks : List Key) (rows : List PartRow) (left : LeftOut) → IsRejoinedPart marks rows left
     → length left.part.rows.items + length left.gone.items ≡ length rows
-rows_before rows left is = ap (λ (n : ℕ). length left.part.rows.items + n) (sym (length-numbers left.gone.items)) ∙ is.parted.all
+rows_before marks rows left is = ap (λ (n : ℕ). length left.part.rows.items + n) (sym (length-numbers left.gone.items)) ∙ is.parted.all
 
 -- and how many pairs there are after
-pub pairs_after : (rows : List PartRow) (left : LeftOut) → IsRejoinedPart rows left
-    → length left.part.rows.items ≡ length (joined [] (map row_pair rows))
-pairs_after rows left is = sym (length-map left.part.rows.items row_pair) ∙ ap (λ (ps : List Pair). length ps) is.pairs
+pub pairs_after : (marks : List Key) (rows : List PartRow) (left : LeftOut) → IsRejoinedPart marks rows left
+    → length left.part.rows.items ≡ length (joined marks (map row_pair rows))
+pairs_after marks rows left is = sym (length-map left.part.rows.items row_pair) ∙ ap (λ (ps : List Pair). length ps) is.pairs
 
 -- links that are all 0
 pub all_zero : (hs : List ℕ) → All (λ (h : ℕ). h ≡ 0) hs → hs ≡ replicate (length hs) 0

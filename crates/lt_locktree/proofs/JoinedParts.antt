@@ -7,9 +7,9 @@ use Rattle.lt_seq.specs.declared.event.Pair.{Pair}
 use Rattle.lt_seq.specs.declared.event.Mode.{Mode}
 use Rattle.lt_seq.specs.declared.event.Mode.TheVariants.{Tree as TreeMode}
 use Rattle.lt_seq.specs.declared.event.Deed.TheVariants.{Join}
-use Rattle.lt_seq.specs.declared.plan.YardPlan.{YardPlan}
+use Rattle.lt_rows.specs.declared.row_plan.RowPlan.{RowPlan}
 use Rattle.lt_seq.specs.Pairs.{joined}
-use Rattle.lt_seq.specs.SeqPass.{plain}
+use Rattle.lt_rows.specs.Plan.{setting_of}
 use Rattle.lt_forest.specs.declared.part.PartRow.{PartRow}
 use Rattle.lt_forest.specs.Counts.{times}
 use Rattle.lt_forest.specs.Bounds.{Bound}
@@ -38,11 +38,13 @@ no_ends c cut rows n rows_are hangs_are =
     ends_are_hanging c cut None None
     ∙ ((λ j. hanging (rows_are j) (hangs_are j) None None) ∙ none_hang rows n None None)
 
-join_shows : (k : YardPlan) (txn tree : ℕ) (c d : Nodes) (sub new : Cut) (was now : Mode) (s : ℕ) → was ≡ TreeMode s → now ≡ was
-    → pairs_in d (bare new) ≡ joined [] (pairs_in c (bare sub))
-    → ShowsDeed (plain k) txn (Join tree (length (pairs_in c (bare sub))) (length (joined [] (pairs_in c (bare sub))))) c d sub new was now
+join_shows : (k : RowPlan) (txn tree : ℕ) (c d : Nodes) (sub new : Cut) (was now : Mode) (s : ℕ) → was ≡ TreeMode s → now ≡ was
+    → pairs_in d (bare new) ≡ joined k.marks (pairs_in c (bare sub))
+    → ShowsDeed (setting_of k) txn
+    (Join tree (length (pairs_in c (bare sub))) (length (joined k.marks (pairs_in c (bare sub))))) c d sub new was now
 join_shows k txn tree c d sub new was now s e f pairs =
-    subst (λ (m : Mode × Mode). ShowsDeed (plain k) txn (Join tree (length (pairs_in c (bare sub))) (length (joined [] (pairs_in c (bare sub))))) c d sub new m.0 m.1)
+    subst (λ (m : Mode × Mode). ShowsDeed (setting_of k) txn
+    (Join tree (length (pairs_in c (bare sub))) (length (joined k.marks (pairs_in c (bare sub))))) c d sub new m.0 m.1)
     (λ j. (sym e j, sym (f ∙ e) j))
     (record { was_tree = tt; is_tree = tt; pairs = pairs; mode = refl; replies = refl; question = tt })
 
@@ -55,8 +57,9 @@ join_commits v tree here rows rows' more given plan e change l closed lt at join
     let same_pairs : map row_pair rows ≡ mine = sub_pairs v tree whole here rows zeros more l lt in
     let numbers_is : in_order (bare l.sub) ≡ numbers rows = numbers_are v tree whole here rows zeros more l closed lt in
     let new_numbers : in_order (bare laid.new) ≡ numbers rows' = sym (numbers_of d (in_order (bare laid.new))) ∙ ap numbers laid.rows_are in
-    let pairs : pairs_in d (bare laid.new) ≡ joined [] mine =
-    sym (rows_show_pairs d laid.new) ∙ (ap (λ (rs : List PartRow). map row_pair rs) laid.rows_are ∙ (join ∙ ap (joined []) same_pairs)) in
+    let pairs : pairs_in d (bare laid.new) ≡ joined v.plan.marks mine =
+    sym (rows_show_pairs d laid.new)
+    ∙ (ap (λ (rs : List PartRow). map row_pair rs) laid.rows_are ∙ (join ∙ ap (joined v.plan.marks) same_pairs)) in
     let same : SameRows l.sub laid.new [] given =
     record {
       each = λ q. let k = parted.each q in let a = ap (times q) numbers_is in let b = ap (times q) new_numbers in omega arith;
@@ -69,10 +72,10 @@ join_commits v tree here rows rows' more given plan e change l closed lt at join
     (λ j. (sym (no_ends c l.sub rows (length rows + 1) l.rows_are l.hangs_are) j, sym (no_ends d laid.new rows' (length rows' + 1) laid.rows_are laid.hangs_are) j))
     tt in
     let long : length rows ≡ length mine = sym (length-map rows row_pair) ∙ ap (λ (ps : List Pair). length ps) same_pairs in
-    let new_long : length rows' ≡ length (joined [] mine) =
-    sym (length-map rows' row_pair) ∙ ap (λ (ps : List Pair). length ps) (join ∙ ap (joined []) same_pairs) in
+    let new_long : length rows' ≡ length (joined v.plan.marks mine) =
+    sym (length-map rows' row_pair) ∙ ap (λ (ps : List Pair). length ps) (join ∙ ap (joined v.plan.marks) same_pairs) in
     relay_commits v tree whole here rows zeros more l closed lt plan laid.new [] given e.txn
-    (Join tree (length mine) (length (joined [] mine))) refl refl tt laid.shows laid.beside
+    (Join tree (length mine) (length (joined v.plan.marks mine))) refl refl tt laid.shows laid.beside
     (λ q some. sub_held v tree whole here rows zeros more l closed lt q (let s = same.each q in omega arith))
     loose same pool
     (subst (λ (ns : List ℕ). PlansOnly (here ∷ v.plan.trees ∷ ns) (planned_rows plan)) (sym (append-nil (in_order (bare l.sub)) ∙ numbers_is)) only)

@@ -9,7 +9,7 @@ use Rattle.lt_ranges.specs.Interval.{Interval, IsInterval}
 use Rattle.lt_seq.specs.declared.event.Deed.TheVariants.{Ask}
 use Rattle.lt_seq.specs.declared.event.Pair.{Pair}
 use Rattle.lt_seq.specs.declared.event.Reply.TheVariants.{Granted}
-use Rattle.lt_seq.specs.declared.plan.YardPlan.{YardPlan}
+use Rattle.lt_rows.specs.declared.row_plan.RowPlan.{RowPlan}
 use Rattle.lt_seq.specs.Pairs.{is_own}
 use Rattle.lt_forest.specs.declared.part.Part.{Part}
 use Rattle.lt_forest.specs.declared.part.PartRow.{PartRow}
@@ -62,7 +62,7 @@ merged_rows_held v tree asked here ahead r one run behind hangs more new_hangs l
         (λ z. l.held_rows q (omega arith))
         (λ ne. in_more q (omega arith))
 
-module _ (pass : RowPass) (k : YardPlan) (tree : ℕ) (asked : Interval) (here : ℕ) (part : Part) (more : List ℕ)
+module _ (pass : RowPass) (k : RowPlan) (tree : ℕ) (asked : Interval) (here : ℕ) (part : Part) (more : List ℕ)
     (l : IsLockedWith (knows pass) tree asked here part.rows.items part.hangs.items more) (closed : IsClosed asked part.rows.items part.hangs.items)
     (plan_is : (knows pass).plan ≡ k) (lt : tree < k.trees) (a : Asking) (of : IsOf pass tree asked a) (interval : IsInterval a.range)
     (marked : (knows pass).mark ≡ pass.number + 1) (pool_in : 0 < times (knows pass).plan.trees more)
@@ -90,7 +90,7 @@ module _ (pass : RowPass) (k : YardPlan) (tree : ℕ) (asked : Interval) (here :
   new_hangs = take (length (take start rows) + 1) hangs ++ drop (length (take start rows) + 1 + length run) hangs
 
   lt_here : tree < v.plan.trees
-  lt_here = subst (λ (p : YardPlan). tree < p.trees) (sym plan_is) lt
+  lt_here = subst (λ (p : RowPlan). tree < p.trees) (sym plan_is) lt
 
   asked_is : IsInterval asked
   asked_is = subst IsInterval of.2 interval

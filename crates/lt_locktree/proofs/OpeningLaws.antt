@@ -2,7 +2,7 @@
 use Rattle.std.proofs.Common.{◌≡◌, ℕ, zero, suc, ◌+◌, ◌<◌, List, [], ◌∷◌, ◌++◌, map, replicate, slice_index_or, refl, sym, ap, ◌∙◌, subst, arith, Option, None}
 use Rattle.std.specs.List.{All}
 use Rattle.std.proofs.lemmas.List.Elements.{All-nil, All-cons, All-head, All-tail}
-use Rattle.lt_seq.specs.declared.plan.YardPlan.{YardPlan}
+use Rattle.lt_rows.specs.declared.row_plan.RowPlan.{RowPlan}
 use Rattle.lt_seq.specs.Passes.{numbers_from}
 use Rattle.lt_rows.specs.declared.pass.RowPass.{RowPass}
 use Rattle.lt_rows.specs.declared.table.RowTable.{RowTable}
@@ -25,7 +25,7 @@ none_in (suc n) (suc r) = none_in n r
 idle_of : (t : RowTable) (p : RowPass) → IsNew t.table.shared.table_id t.plan p → p.number < t.plan.passes → IsIdle p
 idle_of t p new below = (
   λ r. ap (λ v. row_at v r) new.knows_is ∙ none_in (rows_of t.plan) r,
-  subst (λ (plan : YardPlan). p.number < plan.passes) (sym new.of.1) below,
+  subst (λ (plan : RowPlan). p.number < plan.passes) (sym new.of.1) below,
 )
 
 idle_from : (t : RowTable) (n count : ℕ) (passes : List RowPass) → n + count ≡ t.plan.passes → map (λ p. p.number) passes ≡ numbers_from n count

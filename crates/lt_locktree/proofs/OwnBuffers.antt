@@ -4,7 +4,7 @@ use Rattle.std.specs.Prelude.{None, pos}
 use mathlib.Core.Logic.{dite}
 use native.Mathlib.Decide.{ℕ_discrete}
 use Rattle.lt_ranges.specs.Interval.{IsInterval}
-use Rattle.lt_seq.specs.declared.plan.YardPlan.{YardPlan}
+use Rattle.lt_rows.specs.declared.row_plan.RowPlan.{RowPlan}
 use Rattle.lt_seq.specs.declared.event.Event.{Event}
 use Rattle.lt_seq.specs.declared.event.Deed.TheVariants.{Who}
 use Rattle.lt_seq.specs.Table.{tree_of}
@@ -69,16 +69,16 @@ module _ (v w : View) (tree : ℕ) (log : List Event) (b : Backs v (tree ∷ [])
       put_only w z tree anchor_only h.0 h.1 put
 
 -- the commit, as the call asks for it
-pub own_who_commits : (pass : RowPass) (k : YardPlan) (a : Asking) (owner : ℕ) (owners : List ℕ) → (knows pass).plan ≡ k → a.tree < k.trees
+pub own_who_commits : (pass : RowPass) (k : RowPlan) (a : Asking) (owner : ℕ) (owners : List ℕ) → (knows pass).plan ≡ k → a.tree < k.trees
     → Backs (knows pass) (a.tree ∷ []) → ShowsBufferOf (knows pass) a.tree owner → a.pass ≡ pass.number → IsInterval a.range → owners ≡ []
     → IsCommit k (knows pass) (asked_event a (Who a.tree a.range owner owners)) [] (pos 0)
 own_who_commits pass k a owner owners plan lt b buffer own interval none =
     let v : View = knows pass in
     let o = one_here a.tree in
     let h = backs_has v (a.tree ∷ []) b a.tree (omega arith) (words_of (row_at v a.tree)) refl in
-    subst (λ (p : YardPlan). IsCommit p (knows pass) (asked_event a (Who a.tree a.range owner owners)) [] (pos 0)) plan
+    subst (λ (p : RowPlan). IsCommit p (knows pass) (asked_event a (Who a.tree a.range owner owners)) [] (pos 0)) plan
     (own_who_keeps_buffer v a.tree owner buffer.0 a.range (asked_event a (Who a.tree a.range owner owners)) h.0 buffer.1
-    (subst (λ (p : YardPlan). a.tree < p.trees) (sym plan) lt) interval (ap (λ (os : List ℕ). Who a.tree a.range owner os) none)
+    (subst (λ (p : RowPlan). a.tree < p.trees) (sym plan) lt) interval (ap (λ (os : List ℕ). Who a.tree a.range owner os) none)
     (ap (λ (n : ℕ). n + 1) own ∙ sym pass.numbered.0))
 
 -- and what it makes

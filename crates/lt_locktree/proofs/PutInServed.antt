@@ -9,7 +9,7 @@ use Rattle.lt_ranges.specs.Interval.{Interval, IsInterval}
 use Rattle.lt_seq.specs.declared.event.Deed.TheVariants.{Ask}
 use Rattle.lt_seq.specs.declared.event.Mode.TheVariants.{Tree as TreeMode}
 use Rattle.lt_seq.specs.declared.event.Reply.TheVariants.{Granted}
-use Rattle.lt_seq.specs.declared.plan.YardPlan.{YardPlan}
+use Rattle.lt_rows.specs.declared.row_plan.RowPlan.{RowPlan}
 use Rattle.lt_seq.specs.Table.{is_buffered}
 use Rattle.lt_forest.specs.declared.part.PartRow.{PartRow}
 use Rattle.lt_forest.specs.Counts.{one_if, times}
@@ -46,7 +46,7 @@ buffer_kept v w tree here txn rows held keeps only none is score mode =
     ap (λ (u : View). is_buffered u.plan.buffer txn (map row_pair rows) (TreeMode score)) only.0
     ∙ none is score (sym (ap (λ (x : Option Row). mode_of (image_of x)) same) ∙ mode)
 
-module _ (pass : RowPass) (k : YardPlan) (tree : ℕ) (asked : Interval) (here : ℕ) (rows : List PartRow) (hangs : List ℕ) (row : ℕ)
+module _ (pass : RowPass) (k : RowPlan) (tree : ℕ) (asked : Interval) (here : ℕ) (rows : List PartRow) (hangs : List ℕ) (row : ℕ)
     (l : IsLockedWith (knows pass) tree asked here rows hangs (row ∷ (knows pass).plan.trees ∷ [])) (closed : IsClosed asked rows hangs)
     (plan_is : (knows pass).plan ≡ k) (lt : tree < k.trees) (a : Asking) (of : IsOf pass tree asked a) (interval : IsInterval a.range)
     (marked : (knows pass).mark ≡ pass.number + 1) (first : HoldsFirst (knows pass) row) (licensed : (knows pass).licensed ≡ true)
@@ -63,7 +63,7 @@ module _ (pass : RowPass) (k : YardPlan) (tree : ℕ) (asked : Interval) (here :
   more = row ∷ v.plan.trees ∷ []
 
   lt_here : tree < v.plan.trees
-  lt_here = subst (λ (p : YardPlan). tree < p.trees) (sym plan_is) lt
+  lt_here = subst (λ (p : RowPlan). tree < p.trees) (sym plan_is) lt
 
   asked_is : IsInterval asked
   asked_is = subst IsInterval of.2 interval

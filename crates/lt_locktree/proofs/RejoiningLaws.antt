@@ -2,6 +2,7 @@
 use Rattle.std.proofs.Common.{◌≡◌, ℕ, ◌+◌, ◌<◌, Bool, true, false, List, [], ◌∷◌, ◌++◌, length, map, take, drop, get_or, refl, sym, ap, ◌∙◌, subst, arith, if◌then◌else◌}
 use Rattle.std.proofs.lemmas.List.{take_more, drop_more, length-append}
 use Rattle.std.proofs.lemmas.Bool.Decides.{nat_tests}
+use Rattle.lt_ranges.specs.declared.key.Key.{Key}
 use Rattle.lt_ranges.specs.Interval.{Interval, IsInterval, before, hull}
 use Rattle.lt_ranges.proofs.KeyLaws.{le_trans, le_total}
 use Rattle.lt_seq.specs.declared.event.Pair.{Pair}
@@ -17,25 +18,27 @@ use Rattle.lt_locktree.specs.LawsOfJoins.{StayOrGo}
 abbrev one : Pair → Pair → Pair
 one p q = record { owner = p.owner; range = record { left = p.range.left; right = q.range.right } }
 
-same_owner : (p q : Pair) → are_joined [] p q ≡ true → p.owner ≡ q.owner
-same_owner p q e = grind (arith, nat_tests)
+same_owner : (marks : List Key) (p q : Pair) → are_joined marks p q ≡ true → p.owner ≡ q.owner
+same_owner marks p q e = grind (arith, nat_tests)
 
 -- a pair behind others, as one with the last of them where they are joined
-with_back : List Pair → Pair → List Pair
-with_back [] n = n ∷ []
-with_back (p ∷ []) n = if are_joined [] p n then one p n ∷ [] else p ∷ n ∷ []
-with_back (p ∷ q ∷ qs) n = p ∷ with_back (q ∷ qs) n
+with_back : List Key → List Pair → Pair → List Pair
+with_back marks [] n = n ∷ []
+with_back marks (p ∷ []) n = if are_joined marks p n then one p n ∷ [] else p ∷ n ∷ []
+with_back marks (p ∷ q ∷ qs) n = p ∷ with_back marks (q ∷ qs) n
 
-front_back : (p : Pair) (ys : List Pair) (n : Pair) → with_front [] p (with_back ys n) ≡ with_back (with_front [] p ys) n
+front_back : (marks : List Key) (p : Pair) (ys : List Pair) (n : Pair)
+    → with_front marks p (with_back marks ys n) ≡ with_back marks (with_front marks p ys) n
 unfolding with_back
-front_back p [] n = refl
-front_back p (y ∷ []) n =
-    left (are_joined [] y n)
-    ∙ (middle (are_joined [] p y) (are_joined [] y n)
-    ∙ sym (right (are_joined [] p y) (same_owner p y)))
+front_back marks p [] n = refl
+front_back marks p (y ∷ []) n =
+    left (are_joined marks y n)
+    ∙ (middle (are_joined marks p y) (are_joined marks y n)
+    ∙ sym (right (are_joined marks p y) (same_owner marks p y)))
   where
-    left : (b : Bool) → with_front [] p (if b then one y n ∷ [] else y ∷ n ∷ [])
-        ≡ (if b then (if are_joined [] p y then one p n ∷ [] else p ∷ one y n ∷ []) else (if are_joined [] p y then one p y ∷ n ∷ [] else p ∷ y ∷ n ∷ []))
+    left : (b : Bool) → with_front marks p (if b then one y n ∷ [] else y ∷ n ∷ [])
+        ≡ (if b then (if are_joined marks p y then one p n ∷ [] else p ∷ one y n ∷ [])
+        else (if are_joined marks p y then one p y ∷ n ∷ [] else p ∷ y ∷ n ∷ []))
     left true = refl
     left false = refl
 
@@ -46,34 +49,37 @@ front_back p (y ∷ []) n =
     middle false true = refl
     middle false false = refl
 
-    right : (a : Bool) → (a ≡ true → p.owner ≡ y.owner) → with_back (if a then one p y ∷ [] else p ∷ y ∷ []) n
-        ≡ (if a then (if are_joined [] y n then one p n ∷ [] else one p y ∷ n ∷ []) else p ∷ (if are_joined [] y n then one y n ∷ [] else y ∷ n ∷ []))
+    right : (a : Bool) → (a ≡ true → p.owner ≡ y.owner) → with_back marks (if a then one p y ∷ [] else p ∷ y ∷ []) n
+        ≡ (if a then (if are_joined marks y n then one p n ∷ [] else one p y ∷ n ∷ [])
+        else p ∷ (if are_joined marks y n then one y n ∷ [] else y ∷ n ∷ []))
     right true same =
-        ap (λ (o : ℕ). if are_joined [] (record { owner = o; range = y.range }) n then one p n ∷ [] else one p y ∷ n ∷ []) (same refl)
+        ap (λ (o : ℕ). if are_joined marks (record { owner = o; range = y.range }) n then one p n ∷ [] else one p y ∷ n ∷ []) (same refl)
     right false same = refl
-front_back p (y ∷ z ∷ zs) n = by (are_joined [] p y)
+front_back marks p (y ∷ z ∷ zs) n = by (are_joined marks p y)
   where
-    by : (b : Bool) → (if b then one p y ∷ with_back (z ∷ zs) n else p ∷ y ∷ with_back (z ∷ zs) n)
-        ≡ with_back (if b then one p y ∷ z ∷ zs else p ∷ y ∷ z ∷ zs) n
+    by : (b : Bool) → (if b then one p y ∷ with_back marks (z ∷ zs) n else p ∷ y ∷ with_back marks (z ∷ zs) n)
+        ≡ with_back marks (if b then one p y ∷ z ∷ zs else p ∷ y ∷ z ∷ zs) n
     by true = refl
     by false = refl
 
-joined_back : (xs : List Pair) (n : Pair) → joined [] (xs ++ n ∷ []) ≡ with_back (joined [] xs) n
+joined_back : (marks : List Key) (xs : List Pair) (n : Pair) → joined marks (xs ++ n ∷ []) ≡ with_back marks (joined marks xs) n
 unfolding with_back
-joined_back [] n = refl
-joined_back (x ∷ xs) n = ap (with_front [] x) (joined_back xs n) ∙ front_back x (joined [] xs) n
+joined_back marks [] n = refl
+joined_back marks (x ∷ xs) n = ap (with_front marks x) (joined_back marks xs n) ∙ front_back marks x (joined marks xs) n
 
-back_joined : (xs : List Pair) (p n : Pair) → are_joined [] p n ≡ true → with_back (xs ++ p ∷ []) n ≡ xs ++ one p n ∷ []
+back_joined : (marks : List Key) (xs : List Pair) (p n : Pair)
+    → are_joined marks p n ≡ true → with_back marks (xs ++ p ∷ []) n ≡ xs ++ one p n ∷ []
 unfolding with_back
-back_joined [] p n e = ap (λ (b : Bool). if b then one p n ∷ [] else p ∷ n ∷ []) e
-back_joined (x ∷ []) p n e = ap (λ (ps : List Pair). x ∷ ps) (back_joined [] p n e)
-back_joined (x ∷ y ∷ ys) p n e = ap (λ (ps : List Pair). x ∷ ps) (back_joined (y ∷ ys) p n e)
+back_joined marks [] p n e = ap (λ (b : Bool). if b then one p n ∷ [] else p ∷ n ∷ []) e
+back_joined marks (x ∷ []) p n e = ap (λ (ps : List Pair). x ∷ ps) (back_joined marks [] p n e)
+back_joined marks (x ∷ y ∷ ys) p n e = ap (λ (ps : List Pair). x ∷ ps) (back_joined marks (y ∷ ys) p n e)
 
-back_apart : (xs : List Pair) (p n : Pair) → are_joined [] p n ≡ false → with_back (xs ++ p ∷ []) n ≡ (xs ++ p ∷ []) ++ n ∷ []
+back_apart : (marks : List Key) (xs : List Pair) (p n : Pair)
+    → are_joined marks p n ≡ false → with_back marks (xs ++ p ∷ []) n ≡ (xs ++ p ∷ []) ++ n ∷ []
 unfolding with_back
-back_apart [] p n e = ap (λ (b : Bool). if b then one p n ∷ [] else p ∷ n ∷ []) e
-back_apart (x ∷ []) p n e = ap (λ (ps : List Pair). x ∷ ps) (back_apart [] p n e)
-back_apart (x ∷ y ∷ ys) p n e = ap (λ (ps : List Pair). x ∷ ps) (back_apart (y ∷ ys) p n e)
+back_apart marks [] p n e = ap (λ (b : Bool). if b then one p n ∷ [] else p ∷ n ∷ []) e
+back_apart marks (x ∷ []) p n e = ap (λ (ps : List Pair). x ∷ ps) (back_apart marks [] p n e)
+back_apart marks (x ∷ y ∷ ys) p n e = ap (λ (ps : List Pair). x ∷ ps) (back_apart marks (y ∷ ys) p n e)
 
 -- of two ranges, one before the other, the hull goes from the first left end to the second right end
 hull_before : (a b : Interval) → IsInterval a → IsInterval b → before a b ≡ true → hull a b ≡ record { left = a.left; right = b.right }
@@ -90,15 +96,17 @@ lawful_one p q rest lawful = (ordered p.range q.range lawful.0 lawful.2.0 lawful
     after_right (r ∷ rs) all = (all.0, after_right rs all.1)
 
 -- the first rows are joined, of which the last one may still grow
-pub record JoinsSome (rows : List PartRow) (i : ℕ) (kept : List PartRow) (last : PartRow) (gone : List PartRow) : Type 0 where
-  pub pairs : map row_pair (kept ++ last ∷ []) ≡ joined [] (map row_pair (take i rows))
+pub record JoinsSome (marks : List Key) (rows : List PartRow) (i : ℕ) (kept : List PartRow) (last : PartRow)
+    (gone : List PartRow) : Type 0 where
+  pub pairs : map row_pair (kept ++ last ∷ []) ≡ joined marks (map row_pair (take i rows))
   pub parted : StayOrGo (take i rows) (kept ++ last ∷ []) (numbers gone)
   pub lawful : IsLawful (row_pair last ∷ map row_pair (drop i rows))
 
-pub first_alone : (rows : List PartRow) (r : PartRow) → 0 < length rows → r ≡ get_or rows 0 r → IsLawful (map row_pair rows)
-    → JoinsSome rows 1 [] r []
-first_alone [] r some is lawful = absurd (omega arith)
-first_alone (x ∷ xs) r some is lawful = record {
+pub first_alone : (marks : List Key) (rows : List PartRow) (r : PartRow) → 0 < length rows → r ≡ get_or rows 0 r
+    → IsLawful (map row_pair rows)
+    → JoinsSome marks rows 1 [] r []
+first_alone marks [] r some is lawful = absurd (omega arith)
+first_alone marks (x ∷ xs) r some is lawful = record {
   pairs = ap (λ (y : PartRow). row_pair y ∷ []) is;
   parted = record { each = λ q. ap (λ (y : PartRow). times q (numbers (y ∷ [])) + 0) is ∙ (omega arith); all = refl };
   lawful = subst (λ (y : PartRow). IsLawful (row_pair y ∷ map row_pair xs)) (sym is) lawful;
@@ -115,8 +123,8 @@ long_numbers : (rows : List PartRow) (r : PartRow) → length (numbers (rows ++ 
 long_numbers [] r = refl
 long_numbers (x ∷ xs) r = let e = long_numbers xs r in omega arith
 
-module _ (rows : List PartRow) (i : ℕ) (kept : List PartRow) (last : PartRow) (gone : List PartRow) (r : PartRow)
-    (so_far : JoinsSome rows i kept last gone) (short : i < length rows) (row_is : r ≡ get_or rows i r) where
+module _ (marks : List Key) (rows : List PartRow) (i : ℕ) (kept : List PartRow) (last : PartRow) (gone : List PartRow) (r : PartRow)
+    (so_far : JoinsSome marks rows i kept last gone) (short : i < length rows) (row_is : r ≡ get_or rows i r) where
   rows_more : take (i + 1) rows ≡ take i rows ++ r ∷ []
   rows_more = take_more rows i r short ∙ ap (λ (x : PartRow). take i rows ++ x ∷ []) (sym row_is)
 
@@ -126,25 +134,24 @@ module _ (rows : List PartRow) (i : ℕ) (kept : List PartRow) (last : PartRow) 
       (drop_more rows i r short ∙ ap (λ (x : PartRow). x ∷ drop (i + 1) rows) (sym row_is))
       so_far.lawful
 
-  joined_now : joined [] (map row_pair (take (i + 1) rows)) ≡ with_back (map row_pair kept ++ row_pair last ∷ []) (row_pair r)
+  joined_now : joined marks (map row_pair (take (i + 1) rows)) ≡ with_back marks (map row_pair kept ++ row_pair last ∷ []) (row_pair r)
   joined_now =
-      ap (λ (rs : List PartRow). joined [] (map row_pair rs)) rows_more
-      ∙ (ap (joined []) (map_app row_pair (take i rows) (r ∷ []))
-      ∙ (joined_back (map row_pair (take i rows)) (row_pair r)
-      ∙ ap (λ (ps : List Pair). with_back ps (row_pair r)) (sym so_far.pairs ∙ map_app row_pair kept (last ∷ []))))
+      ap (λ (rs : List PartRow). joined marks (map row_pair rs)) rows_more
+      ∙ (ap (joined marks) (map_app row_pair (take i rows) (r ∷ []))
+      ∙ (joined_back marks (map row_pair (take i rows)) (row_pair r)
+      ∙ ap (λ (ps : List Pair). with_back marks ps (row_pair r)) (sym so_far.pairs ∙ map_app row_pair kept (last ∷ []))))
 
-  pub one_taken_in : (last' : PartRow) → last.owner ≡ r.owner
+  pub one_taken_in : (last' : PartRow) → are_joined marks (row_pair last) (row_pair r) ≡ true
       → last' ≡ record { row = last.row; owner = last.owner; range = hull last.range r.range }
-      → JoinsSome rows (i + 1) kept last' (gone ++ r ∷ [])
-  one_taken_in last' same is =
+      → JoinsSome marks rows (i + 1) kept last' (gone ++ r ∷ [])
+  one_taken_in last' are is =
       let now : row_pair last' ≡ one (row_pair last) (row_pair r) =
       ap row_pair is ∙ ap (λ (range : Interval). record { owner = last.owner; range = range })
       (hull_before last.range r.range lawful_now.0 lawful_now.2.0 lawful_now.1.0) in
-      let are : are_joined [] (row_pair last) (row_pair r) ≡ true = grind (arith, nat_tests) in
       let number : last'.row ≡ last.row = ap (λ (x : PartRow). x.row) is in
       record {
         pairs = map_app row_pair kept (last' ∷ []) ∙ (ap (λ (p : Pair). map row_pair kept ++ p ∷ []) now
-            ∙ (sym (back_joined (map row_pair kept) (row_pair last) (row_pair r) are) ∙ sym joined_now));
+            ∙ (sym (back_joined marks (map row_pair kept) (row_pair last) (row_pair r) are) ∙ sym joined_now));
         parted = record {
           each = λ q.
               let a = times_back kept last' q ∙ ap (λ (n : ℕ). times q (numbers kept) + times q (n ∷ [])) number in
@@ -164,13 +171,12 @@ module _ (rows : List PartRow) (i : ℕ) (kept : List PartRow) (last : PartRow) 
             (lawful_one (row_pair last) (row_pair r) (map row_pair (drop (i + 1) rows)) lawful_now);
       }
 
-  pub one_apart : (last.owner ≡ r.owner → ⊥) → JoinsSome rows (i + 1) (kept ++ last ∷ []) r gone
-  one_apart other =
-      let are : are_joined [] (row_pair last) (row_pair r) ≡ false = grind (arith, nat_tests) in
+  pub one_apart : are_joined marks (row_pair last) (row_pair r) ≡ false → JoinsSome marks rows (i + 1) (kept ++ last ∷ []) r gone
+  one_apart are =
       record {
         pairs = map_app row_pair (kept ++ last ∷ []) (r ∷ [])
             ∙ (ap (λ (ps : List Pair). ps ++ row_pair r ∷ []) (map_app row_pair kept (last ∷ []))
-            ∙ (sym (back_apart (map row_pair kept) (row_pair last) (row_pair r) are) ∙ sym joined_now));
+            ∙ (sym (back_apart marks (map row_pair kept) (row_pair last) (row_pair r) are) ∙ sym joined_now));
         parted = record {
           each = λ q.
               let a = times_back (kept ++ last ∷ []) r q in

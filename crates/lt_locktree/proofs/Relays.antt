@@ -10,7 +10,7 @@ use Rattle.lt_seq.specs.declared.event.Deed.{Deed}
 use Rattle.lt_seq.specs.declared.event.Mode.TheVariants.{Tree as TreeMode}
 use Rattle.lt_seq.specs.History.{IsQuestion}
 use Rattle.lt_seq.specs.Pairs.{IsLawful}
-use Rattle.lt_seq.specs.SeqPass.{plain}
+use Rattle.lt_rows.specs.Plan.{setting_of}
 use Rattle.lt_seq.specs.Table.{tree_of}
 use Rattle.lt_forest.specs.declared.part.PartRow.{PartRow}
 use Rattle.lt_forest.specs.Counts.{times, one_if}
@@ -64,10 +64,10 @@ module _ (v : View) (tree : ℕ) (asked : Interval) (here : ℕ) (rows : List Pa
       (pool : PoolPlan (IsIn (has v)) (planned_rows plan) v.plan.trees c d taken given)
       (only : PlansOnly (here ∷ v.plan.trees ∷ in_order (bare l.sub) ++ taken) (planned_rows plan))
       (below : l.place ≡ below_top → mode_before v plan tree ≡ TreeMode l.score
-      → ShowsDeed (plain v.plan) txn deed c d l.sub new (mode_before v plan tree) (mode_after v plan tree))
+      → ShowsDeed (setting_of v.plan) txn deed c d l.sub new (mode_before v plan tree) (mode_after v plan tree))
       (side : (s : ℕ) (h : Slot) → IsBesideRow l.place → (l.score ≡ 100 → s ≡ 100) → IsLawful (pairs_in c (bare (beside c h l.sub)))
       → IsOnSide c h asked → pair_of c (row_with h) ≡ pair_of d (row_with h)
-      → ShowsDeed (plain v.plan) txn deed c d (beside c h l.sub) (beside d h new) (TreeMode s) (TreeMode s)) where
+      → ShowsDeed (setting_of v.plan) txn deed c d (beside c h l.sub) (beside d h new) (TreeMode s) (TreeMode s)) where
     taken_further : (q : ℕ) → 0 < times q taken → v.plan.trees < q
     taken_further q some = by pool
       where
@@ -180,7 +180,7 @@ module _ (v : View) (tree : ℕ) (asked : Interval) (here : ℕ) (rows : List Pa
         → ShowsFor v.plan v plan txn deed l.top l.score (around p here (c here) l.sub) (around p here (d here) new)
     shown_by below_top e is knows b on lawful =
         subst (λ (t : Top). ShowsFor v.plan v plan txn deed t l.score l.sub new) (sym is.1)
-        (subst (λ (n : ℕ). ShowsDeed (plain v.plan) txn deed c d l.sub new (mode_before v plan n) (mode_after v plan n)) (sym at)
+        (subst (λ (n : ℕ). ShowsDeed (setting_of v.plan) txn deed c d l.sub new (mode_before v plan n) (mode_after v plan n)) (sym at)
         (below e (subst (λ (t : Top). KnowsTop v tree t l.score) is.1 knows)))
     shown_by on_left e is knows b on lawful =
         subst (λ (t : Top). ShowsFor v.plan v plan txn deed t l.score (beside c (left_of here) l.sub) (beside d (left_of here) new))

@@ -4,7 +4,7 @@ use Rattle.std.specs.Prelude.{pos}
 use Rattle.lt_ranges.specs.Interval.{Interval, IsInterval}
 use Rattle.lt_seq.specs.declared.event.Deed.TheVariants.{Ask, Who}
 use Rattle.lt_seq.specs.declared.event.Reply.TheVariants.{HeldBy}
-use Rattle.lt_seq.specs.declared.plan.YardPlan.{YardPlan}
+use Rattle.lt_rows.specs.declared.row_plan.RowPlan.{RowPlan}
 use Rattle.lt_seq.specs.Pairs.{others}
 use Rattle.lt_forest.specs.declared.part.PartRow.{PartRow}
 use Rattle.lt_forest.specs.Parts.{row_pair}
@@ -16,12 +16,12 @@ use Rattle.lt_locktree.specs.declared.asking.Asking.{Asking}
 use Rattle.lt_locktree.specs.Makes.{IsOf}
 use Rattle.lt_locktree.proofs.DeedLaws.{who_commits, held_ask_commits}
 
-module _ (pass : RowPass) (k : YardPlan) (tree : ℕ) (asked : Interval) (here : ℕ) (rows : List PartRow) (hangs more : List ℕ)
+module _ (pass : RowPass) (k : RowPlan) (tree : ℕ) (asked : Interval) (here : ℕ) (rows : List PartRow) (hangs more : List ℕ)
     (l : IsLockedWith (knows pass) tree asked here rows hangs more) (closed : IsClosed asked rows hangs)
     (plan_is : (knows pass).plan ≡ k) (lt : tree < k.trees) (a : Asking) (of : IsOf pass tree asked a) (interval : IsInterval a.range)
     (marked : (knows pass).mark ≡ pass.number + 1) where
   lt_here : tree < (knows pass).plan.trees
-  lt_here = subst (λ (p : YardPlan). tree < p.trees) (sym plan_is) lt
+  lt_here = subst (λ (p : RowPlan). tree < p.trees) (sym plan_is) lt
 
   mark_is : a.pass + 1 ≡ (knows pass).mark
   mark_is = ap (λ (n : ℕ). n + 1) of.0 ∙ sym marked

@@ -5,7 +5,7 @@ use Rattle.lt_seq.specs.declared.event.Mode.TheVariants.{Buffer}
 use Rattle.lt_seq.specs.declared.event.Pair.{Pair}
 use Rattle.lt_seq.specs.History.{after}
 use Rattle.lt_seq.specs.Pairs.{IsLawful}
-use Rattle.lt_seq.specs.SeqPass.{plain}
+use Rattle.lt_rows.specs.Plan.{setting_of}
 use Rattle.lt_seq.specs.Table.{tree_at}
 use Rattle.lt_seq.proofs.LawfulLaws.{sound_history}
 use Rattle.lt_forest.specs.Forest.{folded}
@@ -39,7 +39,7 @@ has_taken v w tree rows held pairs b keeps chain reads are =
     let o = one_here tree in
     let same : images w tree ≡ images v tree = ap image_of (keeps tree (backs_held v (tree ∷ []) b tree (omega arith))) in
     let granted : List Pair = folded (shown w [] tree).owner (shown w []) rows in
-    let stood : List Pair = (tree_at (after (plain w.plan) reads.log) tree).pairs in
+    let stood : List Pair = (tree_at (after (setting_of w.plan) reads.log) tree).pairs in
     record {
       chain = chain;
       mode_is = ap mode_of same;
@@ -47,5 +47,5 @@ has_taken v w tree rows held pairs b keeps chain reads are =
           are ∙ (ap (map held_pair) reads.granted ∙ (held_pairs_are_read tree granted
           ∙ ap (λ (n : ℕ). folded n (shown w []) rows) (owned (images w tree) owner count (ap mode_of same ∙ mode))));
       lawful = subst IsLawful (sym (are ∙ (ap (map held_pair) reads.of_tree ∙ held_pairs_are_read tree stood)))
-          (sound_history (plain w.plan) reads.log reads.stood.shape.legal tree).lawful;
+          (sound_history (setting_of w.plan) reads.log reads.stood.shape.legal tree).lawful;
     }

@@ -8,7 +8,7 @@ use Rattle.lt_seq.specs.declared.event.Mode.{Mode}
 use Rattle.lt_seq.specs.declared.event.Mode.TheVariants.{Tree as TreeMode}
 use Rattle.lt_seq.specs.History.{IsQuestion}
 use Rattle.lt_seq.specs.Pairs.{IsLawful}
-use Rattle.lt_seq.specs.SeqPass.{plain}
+use Rattle.lt_rows.specs.Plan.{setting_of}
 use Rattle.lt_seq.specs.Table.{tree_of}
 use Rattle.lt_forest.specs.declared.part.PartRow.{PartRow}
 use Rattle.lt_forest.specs.Trees.{Nodes, in_order, pairs_in}
@@ -42,15 +42,15 @@ module _ (v : View) (tree : ℕ) (asked : Interval) (here : ℕ) (rows : List Pa
   -- a deed for which nothing changes, as the part shows it and as it shows beside a row
   module _ (txn : ℕ) (deed : Deed) (at : tree_of deed ≡ tree) (on : range_of deed ≡ asked) (question : IsQuestion deed)
       (below : (s : ℕ) → (map row_pair rows ≡ pairs_in c (bare l.sub))
-      → ShowsDeed (plain v.plan) txn deed c c l.sub l.sub (TreeMode s) (TreeMode s))
+      → ShowsDeed (setting_of v.plan) txn deed c c l.sub l.sub (TreeMode s) (TreeMode s))
       (side : (s : ℕ) (h : Slot) → IsLawful (pairs_in c (bare (beside c h l.sub))) → IsOnSide c h asked
-      → ShowsDeed (plain v.plan) txn deed c c (beside c h l.sub) (beside c h l.sub) (TreeMode s) (TreeMode s)) where
+      → ShowsDeed (setting_of v.plan) txn deed c c (beside c h l.sub) (beside c h l.sub) (TreeMode s) (TreeMode s)) where
     by_place : (p : Place) (top : Top) → TopIs p tree here top → KnowsTop v tree top l.score
         → Beside p asked (c here).range → IsLawful (pairs_in c (bare (around p here (c here) l.sub)))
         → ShowsFor v.plan v [] txn deed top l.score (around p here (c here) l.sub) (around p here (c here) l.sub)
     by_place below_top top is knows b lawful =
         subst (λ (t : Top). ShowsFor v.plan v [] txn deed t l.score l.sub l.sub) (sym is.1)
-        (subst (λ (m : Mode). ShowsDeed (plain v.plan) txn deed c c l.sub l.sub m m)
+        (subst (λ (m : Mode). ShowsDeed (setting_of v.plan) txn deed c c l.sub l.sub m m)
         (sym (ap (λ (n : ℕ). mode_before v [] n) at ∙ subst (λ (t : Top). KnowsTop v tree t l.score) is.1 knows))
         (below l.score (sub_pairs v tree asked here rows hangs more l lt)))
     by_place on_left top is knows b lawful =

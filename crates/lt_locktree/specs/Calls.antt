@@ -6,7 +6,7 @@ use Rattle.lt_seq.specs.declared.event.Event.{Event}
 use Rattle.lt_seq.specs.declared.event.JoinNote.{JoinNote}
 use Rattle.lt_seq.specs.declared.fault.Fault.{Fault}
 use Rattle.lt_seq.specs.History.{IsLegal}
-use Rattle.lt_seq.specs.SeqPass.{plain}
+use Rattle.lt_rows.specs.Plan.{setting_of}
 use Rattle.lt_seq.specs.Yard.{note_after}
 use Rattle.lt_rows.specs.declared.view.View.{View}
 use Rattle.lt_rows.specs.Handles.{knows, IsPassOf}
@@ -55,14 +55,14 @@ pub record Makes (v w : View) (txn : ℕ) (deed : Deed) (place : ℕ) : Type 0 w
   pub own : IsOfOthers v rest
   pub place_is : place ≡ v.plan.first + length (v.front ++ rest)
   pub front : w.front ≡ (v.front ++ rest) ++ event_of v txn deed ∷ []
-  pub legal : IsLegal (plain v.plan) w.front
+  pub legal : IsLegal (setting_of v.plan) w.front
   pub same : IsSame v w
   pub met : v.met ≤ w.met
 
 -- A join, and its note: the pairs are the tree's behind it.
 pub record Joins (v w : View) (txn tree : ℕ) (note : JoinNote) : Type 0 where
   pub made : Makes v w txn (Join tree note.before note.after) note.place
-  pub note_is : note ≡ note_after (plain v.plan) (v.front ++ made.rest) tree
+  pub note_is : note ≡ note_after (setting_of v.plan) (v.front ++ made.rest) tree
 
 -- A deed that made no event, for this cause. The pass may have seen more of the history, which is legal where it was.
 pub record Leaves (v w : View) (fault : Fault) : Type 0 where
@@ -70,7 +70,7 @@ pub record Leaves (v w : View) (fault : Fault) : Type 0 where
   pub alone : v.rights ≡ v.plan.passes → rest ≡ []
   pub own : IsOfOthers v rest
   pub front : w.front ≡ v.front ++ rest
-  pub legal : IsLegal (plain v.plan) v.front → IsLegal (plain v.plan) w.front
+  pub legal : IsLegal (setting_of v.plan) v.front → IsLegal (setting_of v.plan) w.front
   pub same : IsSame v w
   pub met : v.met ≤ w.met
   pub cause : IsRefused v w fault

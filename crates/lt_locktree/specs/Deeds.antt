@@ -4,7 +4,7 @@ use Rattle.lt_seq.specs.declared.event.Deed.{Deed}
 use Rattle.lt_seq.specs.declared.event.Deed.TheVariants.{Join}
 use Rattle.lt_seq.specs.declared.event.Event.{Event}
 use Rattle.lt_seq.specs.declared.event.JoinNote.{JoinNote}
-use Rattle.lt_seq.specs.SeqPass.{plain}
+use Rattle.lt_rows.specs.Plan.{setting_of}
 use Rattle.lt_seq.specs.Yard.{note_after}
 use Rattle.lt_rows.specs.declared.image.RowImage.{RowImage}
 use Rattle.lt_rows.specs.declared.view.View.{View}
@@ -30,4 +30,4 @@ abbrev pub MakesJoin : View → View → Asking → JoinNote → Type 0
 MakesJoin v w a note =
     MakesDeed v w a (Join a.tree note.before note.after) note.place
     × (before : List Event) × (w.front ≡ before ++ asked_event a (Join a.tree note.before note.after) ∷ [])
-    × (note ≡ note_after (plain v.plan) before a.tree)
+    × (note ≡ note_after (setting_of v.plan) before a.tree)

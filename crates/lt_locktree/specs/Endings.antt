@@ -8,7 +8,7 @@ use Rattle.lt_seq.specs.declared.event.Deed.TheVariants.{Ask, Free, Who, Join}
 use Rattle.lt_seq.specs.declared.event.Reply.TheVariants.{Granted, HeldBy}
 use Rattle.lt_seq.specs.History.{IsQuestion}
 use Rattle.lt_seq.specs.Pairs.{others, granted, freed, count_freed, joined}
-use Rattle.lt_seq.specs.SeqPass.{plain}
+use Rattle.lt_rows.specs.Plan.{setting_of}
 use Rattle.lt_seq.specs.Table.{tree_of, tree_after, replied, is_buffered, drops_all, raised}
 use Rattle.lt_forest.specs.declared.part.PartRow.{PartRow}
 use Rattle.lt_forest.specs.Counts.{times}
@@ -60,10 +60,10 @@ LaidBufferCommits =
     → LaysTree v plan (tree_of e.deed) rows → TakeOver olds rows taken given
     → PoolPlan (IsIn (has v)) (planned_rows plan) v.plan.trees (shown v plan) (shown_after v plan) taken given
     → PlansOnly (tree_of e.deed ∷ v.plan.trees ∷ olds ++ taken) (planned_rows plan)
-    → map row_pair rows ≡ (tree_after (plain v.plan) e.txn e.deed (buffered_state owner count (shown v []) olds)).pairs
+    → map row_pair rows ≡ (tree_after (setting_of v.plan) e.txn e.deed (buffered_state owner count (shown v []) olds)).pairs
     → IsTree (mode_after v plan (tree_of e.deed))
-    → mode_after v plan (tree_of e.deed) ≡ (tree_after (plain v.plan) e.txn e.deed (buffered_state owner count (shown v []) olds)).mode
-    → replied (plain v.plan) e.txn e.deed (buffered_state owner count (shown v []) olds) ≡ e.deed
+    → mode_after v plan (tree_of e.deed) ≡ (tree_after (setting_of v.plan) e.txn e.deed (buffered_state owner count (shown v []) olds)).mode
+    → replied (setting_of v.plan) e.txn e.deed (buffered_state owner count (shown v []) olds) ≡ e.deed
     → e.pass + 1 ≡ v.mark → change +ℤ pos (length olds) ≡ pos (length rows) → (length olds < length rows → v.licensed ≡ true)
     → IsCommit v.plan v e plan change
 
@@ -142,7 +142,7 @@ JoinEndsBuffer =
     → LaysTree v plan tree rows → TakeOver olds rows taken given
     → PoolPlan (IsIn (has v)) (planned_rows plan) v.plan.trees (shown v plan) (shown_after v plan) taken given
     → PlansOnly (tree ∷ v.plan.trees ∷ olds ++ taken) (planned_rows plan)
-    → map row_pair rows ≡ joined (plain v.plan).marks (buffered_pairs v owner olds) → mode_after v plan tree ≡ TreeMode 0
+    → map row_pair rows ≡ joined (setting_of v.plan).marks (buffered_pairs v owner olds) → mode_after v plan tree ≡ TreeMode 0
     → e.deed ≡ Join tree (length (buffered_pairs v owner olds)) (length rows)
     → e.pass + 1 ≡ v.mark → change +ℤ pos (length olds) ≡ pos (length rows) → (length olds < length rows → v.licensed ≡ true)
     → IsCommit v.plan v e plan change

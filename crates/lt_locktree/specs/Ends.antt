@@ -4,7 +4,7 @@ use Rattle.lt_seq.specs.declared.event.Event.{Event}
 use Rattle.lt_seq.specs.declared.event.Pair.{Pair}
 use Rattle.lt_seq.specs.declared.event.Mode.TheVariants.{Tree as TreeMode, Buffer}
 use Rattle.lt_seq.specs.History.{IsQuestion}
-use Rattle.lt_seq.specs.SeqPass.{plain}
+use Rattle.lt_rows.specs.Plan.{setting_of}
 use Rattle.lt_seq.specs.Table.{tree_of, tree_after, replied, is_buffered}
 use Rattle.lt_forest.specs.Buffers.{buffered_state}
 use Rattle.lt_rows.specs.declared.view.View.{View}
@@ -19,9 +19,9 @@ pub record EndsAs (v : View) (tree owner count : ℕ) (olds : List ℕ) (score :
   pub own : e.pass + 1 ≡ v.mark
   pub tree_is : tree_of e.deed ≡ tree
   pub question : IsQuestion e.deed
-  pub after : tree_after (plain v.plan) e.txn e.deed (buffered_state owner count (shown v []) olds)
+  pub after : tree_after (setting_of v.plan) e.txn e.deed (buffered_state owner count (shown v []) olds)
       ≡ record { pairs = pairs; mode = TreeMode score }
-  pub reply : replied (plain v.plan) e.txn e.deed (buffered_state owner count (shown v []) olds) ≡ e.deed
+  pub reply : replied (setting_of v.plan) e.txn e.deed (buffered_state owner count (shown v []) olds) ≡ e.deed
 
 -- the anchor shows a buffer into which an ask of this transaction doesn't go
 abbrev pub TakesNoAsk : View → ℕ → ℕ → Type 0

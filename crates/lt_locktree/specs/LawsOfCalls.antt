@@ -4,7 +4,7 @@ use Rattle.lt_seq.specs.declared.event.Deed.{Deed}
 use Rattle.lt_seq.specs.declared.event.JoinNote.{JoinNote}
 use Rattle.lt_seq.specs.declared.fault.Fault.{Fault}
 use Rattle.lt_seq.specs.History.{after, calls_from, IsNext}
-use Rattle.lt_seq.specs.SeqPass.{plain}
+use Rattle.lt_rows.specs.Plan.{setting_of}
 use Rattle.lt_rows.specs.declared.view.View.{View}
 use Rattle.lt_tree.specs.States.{SeesOn, IsRefused}
 use Rattle.lt_locktree.specs.declared.asking.Asking.{Asking}
@@ -22,7 +22,7 @@ MakesOneCall =
 abbrev pub MakesNext : Type 0
 MakesNext =
     (v w : View) (txn : ℕ) (deed : Deed) (place : ℕ) (made : Makes v w txn deed place)
-    → IsNext (plain v.plan) (after (plain v.plan) (v.front ++ made.rest)) (event_of v txn deed)
+    → IsNext (setting_of v.plan) (after (setting_of v.plan) (v.front ++ made.rest)) (event_of v txn deed)
 
 -- what the asking pass has made, with a number below the passes, is a call's event
 abbrev pub DeedIsMade : Type 0

@@ -25,7 +25,7 @@ JoinPlanCommits =
     (l : IsLockedWith v tree whole here rows (replicate (length rows + 1) 0) more)
     → IsClosed whole rows (replicate (length rows + 1) 0) → tree < v.plan.trees → l.place ≡ below_top
     → mode_of stays.words ≡ mode_before v [] tree
-    → map row_pair rows' ≡ joined [] (map row_pair rows) → StayOrGo rows rows' (numbers gone)
+    → map row_pair rows' ≡ joined v.plan.marks (map row_pair rows) → StayOrGo rows rows' (numbers gone)
     → 0 < times v.plan.trees more → ShowsRow v here stays → IsLoaded v v.plan.trees pool
     → IsChained chained link (reverse gone) (slice_index pool.words 17)
     → PlansRows tree whole stays (chained ++ given_to pool link ∷ []) plan rows' (replicate (length rows' + 1) 0)

@@ -41,7 +41,7 @@ pub(crate) fn join_of_buffer(
     let taken = take_buffer(alloc, table, pass, asking.tree, spins)?;
     let HeldBuffer { rows, pairs } = taken;
     let mut pairs = pairs;
-    let counts = join_pairs(&mut pairs, &[]);
+    let counts = join_pairs(&mut pairs, table.plan().marks.as_slice());
     let Ok(held) = held_pairs(alloc, asking.tree, &pairs) else {
         put_chain(table, pass, asking.tree, rows);
         return Err(Fault::OutOfMemory);

@@ -74,7 +74,8 @@ fn serve_join(
 impl Locktree {
     ghost use Rattle.lt_locktree.specs.Calls.{sees, IsOfTable, StaysOf, Joins, Leaves};
 
-    /// Joins each longest run of neighbours of one owner in a tree into one range. The answer is the join's note.
+    /// Joins each longest run of neighbours of one owner in a tree, between which no mark lies, into one range. The answer is the join's
+    /// note.
     ///
     /// # Errors
     /// As those of `ask`.

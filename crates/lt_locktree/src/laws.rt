@@ -44,8 +44,8 @@ pub fn plans_of_frees()
     ensures { FreePlanCommits }
 {}
 
-/// A join is a commit of a plan in which each longest run of neighbours of one owner becomes one row, or of none where there is no such
-/// run of two. The rows that it holds have the tree's pairs.
+/// A join is a commit of a plan in which each longest run of neighbours of one owner, between which no mark lies, becomes one row, or of
+/// none where there is no such run of two. The rows that it holds have the tree's pairs.
 pub fn joins_are_made()
     ensures joined { JoinCommits }
     ensures none { NoneJoinedCommits }

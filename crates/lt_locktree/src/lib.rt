@@ -60,6 +60,8 @@ pub use standing::stand_pairs;
 pub use tree_pass::TreePass;
 
 #[cfg(test)]
+mod mark_tests;
+#[cfg(test)]
 mod mode_tests;
 #[cfg(test)]
 mod row_tests;

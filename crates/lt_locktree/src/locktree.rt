@@ -1,8 +1,9 @@
 //! The lock table of trees of shared rows.
-ghost use Rattle.std.specs.Prelude.{◌≡◌, ◌++◌, ◌<◌, ◌≤◌, List, map, IfOk};
+ghost use Rattle.std.specs.Prelude.{◌≡◌, ◌++◌, ◌<◌, ◌≤◌, List, [], map, IfOk};
 ghost use Rattle.lt_seq.specs.declared.event.Event.{Event};
 ghost use Rattle.lt_seq.specs.History.{IsFront};
 ghost use Rattle.lt_seq.specs.Yard.{IsPlan};
+ghost use Rattle.lt_rows.specs.Plan.{with_marks};
 ghost use Rattle.lt_rows.specs.Views.{sharer, learner};
 ghost use Rattle.lt_rows.specs.Rule.{IsOfOthers};
 ghost use Rattle.lt_rows.specs.Passes.{view};
@@ -11,7 +12,8 @@ ghost use Rattle.lt_rows.specs.Closings.{IsLeft};
 ghost use Rattle.lt_rows.specs.Handles.{IsNoteOf, Looks};
 
 use crate::tree_pass::TreePass;
-use lt_rows::{RowNote, RowPass, RowTable, RowsLeft};
+use lt_ranges::Key;
+use lt_rows::{RowNote, RowPass, RowPlan, RowTable, RowsLeft};
 use lt_seq::{Look, YardPlan};
 use std::alloc::{AllocError, Global};
 
@@ -47,22 +49,38 @@ fn idle_passes(
 impl Locktree {
     ghost use Rattle.lt_locktree.specs.Calls.{sees, IsOfTable, StaysOf, FirstClosesIt, front_of_first};
 
-    /// A fresh table with its passes, in the order of their numbers. The first has all the rights.
+    /// A fresh table without marks with its passes, in the order of their numbers. The first has all the rights.
     ///
     /// # Errors
     /// Want of memory alone.
     pub fn build(alloc: Global, plan: &YardPlan) -> Result<(Locktree, Vec<TreePass>), AllocError>
         requires plan { IsPlan plan.now }
-        ensures table { IfOk result (λ r. r.0.rows.plan ≡ plan.now) }
+        ensures table { IfOk result (λ r. r.0.rows.plan ≡ with_marks plan.now []) }
         ensures passes { IfOk result (λ r. AreItsPasses r.0.rows (map (λ p. p.pass) r.1.items)) }
     {
-        let (rows, passes) = RowTable::build(alloc, plan)?;
+        Locktree::build_cut(alloc, plan, Vec::new(alloc))
+    }
+
+    /// As `build`, of a table whose joins stop at these marks.
+    ///
+    /// # Errors
+    /// Want of memory alone.
+    pub fn build_cut(
+        alloc: Global,
+        plan: &YardPlan,
+        marks: Vec<Key>,
+    ) -> Result<(Locktree, Vec<TreePass>), AllocError>
+        requires plan { IsPlan plan.now }
+        ensures table { IfOk result (λ r. r.0.rows.plan ≡ with_marks plan.now marks.items) }
+        ensures passes { IfOk result (λ r. AreItsPasses r.0.rows (map (λ p. p.pass) r.1.items)) }
+    {
+        let (rows, passes) = RowTable::build_cut(alloc, plan, marks)?;
         let passes = idle_passes(alloc, passes, &rows)?;
         Ok((Locktree { rows, alloc }, passes))
     }
 
     /// The plan with which it was built.
-    pub fn plan(&self) -> &YardPlan
+    pub fn plan(&self) -> &RowPlan
         ensures { result.now ≡ self.now.rows.plan }
     {
         self.rows.plan()
@@ -92,6 +110,7 @@ impl Locktree {
         ensures of { IsOfTable self.now pass.new }
         ensures left { sees pass.new ≡ sharer rights (sees pass.old) }
         ensures note { IsNoteOf self.now.rows result × (result.rights ≡ rights) × ((view result.place).front ≡ (sees pass.old).front) }
+        ensures note_plan { (view result.place).plan ≡ self.now.rows.plan }
     {
         self.rows.share(&mut pass.pass, rights)
     }

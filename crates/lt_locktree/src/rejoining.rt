@@ -19,8 +19,9 @@ use crate::joining::widen_whole;
 use crate::leaving::LeftOut;
 use crate::noting::{held_rows, join_event};
 use lt_forest::{Part, PartRow};
+use lt_ranges::Key;
 use lt_rows::RowPass;
-use lt_seq::{Fault, JoinNote};
+use lt_seq::{Fault, JoinNote, Pair, are_joined};
 use lt_tree::Locked;
 use std::alloc::{AllocError, Global};
 
@@ -33,11 +34,21 @@ pub struct Rejoined {
     pub gone: Vec<PartRow>,
 }
 
-/// Joins each longest run of neighbours of one owner into the run's first row, from the run's first left end to its last right end. The
-/// others of the run go. The one error is want of memory.
-pub fn rejoin(alloc: Global, rows: &[PartRow]) -> Result<Rejoined, AllocError>
+/// A row's range with its owner.
+fn pair_of(row: &PartRow) -> Pair
+    ensures { result ≡ row_pair row.now }
+{
+    Pair {
+        owner: row.owner,
+        range: row.range,
+    }
+}
+
+/// Joins each longest run of neighbours of one owner into the run's first row, from the run's first left end to its last right end. A
+/// mark between two neighbours ends a run. The others of the run go. The one error is want of memory.
+pub fn rejoin(alloc: Global, rows: &[PartRow], marks: &[Key]) -> Result<Rejoined, AllocError>
     requires { IsLawful (map row_pair rows.now) }
-    ensures { IfOk result (IsRejoined rows.now) }
+    ensures { IfOk result (IsRejoined marks.now rows.now) }
 {
     let mut kept = Vec::new(alloc);
     let mut gone = Vec::new(alloc);
@@ -47,7 +58,7 @@ pub fn rejoin(alloc: Global, rows: &[PartRow]) -> Result<Rejoined, AllocError>
     let mut last = rows[0];
     for i in 1..rows.len() {
         let row = rows[i];
-        if last.owner == row.owner {
+        if are_joined(marks, &pair_of(&last), &pair_of(&row)) {
             last.range = last.range.hull(&row.range);
             gone.push(row)?;
         } else {
@@ -93,7 +104,7 @@ pub fn join_rows<'a>(
     requires asking { IsOf locked.pass locked.tree locked.asked asking.now }
     requires anchor { (locked.held ≡ locked.tree) × (locked.asked ≡ whole) }
     requires bare { locked.part.hangs.items ≡ replicate (length locked.part.rows.items + 1) 0 }
-    requires left { IsRejoinedPart locked.part.rows.items left.now }
+    requires left { IsRejoinedPart (knows locked.pass).plan.marks locked.part.rows.items left.now }
     ensures of { IfOk result (λ r. IsPassOf locked.entry.table.now r.0 × IsSamePass locked.entry.pass r.0 × HoldsNone (knows r.0)) }
     ensures made { IfOk result (λ r. MakesJoin (knows locked.entry.pass) (knows r.0) asking.now r.1) }
     ensures handed { IfErr result (λ r. IsPassOf locked.entry.table.now r.0 × IsSamePass locked.entry.pass r.0 × HoldsNone (knows r.0)
@@ -130,7 +141,7 @@ pub fn join_rows<'a>(
     Ok((pass, note))
 }
 
-/// Joins a whole tree of which no two neighbours have one owner, by an event that ends the search and changes no row.
+/// Joins a whole tree of which no two neighbours are joined, by an event that ends the search and changes no row.
 ///
 /// # Errors
 /// Want of memory alone. There is no event then, and no row is held.
@@ -146,7 +157,7 @@ pub fn join_none<'a>(
     requires asking { IsOf locked.pass locked.tree locked.asked asking.now }
     requires anchor { (locked.held ≡ locked.tree) × (locked.asked ≡ whole) }
     requires bare { locked.part.hangs.items ≡ replicate (length locked.part.rows.items + 1) 0 }
-    requires none { joined [] (map row_pair locked.part.rows.items) ≡ map row_pair locked.part.rows.items }
+    requires none { joined (knows locked.pass).plan.marks (map row_pair locked.part.rows.items) ≡ map row_pair locked.part.rows.items }
     ensures of { IfOk result (λ r. IsPassOf locked.entry.table.now r.0 × IsSamePass locked.entry.pass r.0 × HoldsNone (knows r.0)) }
     ensures made { IfOk result (λ r. MakesJoin (knows locked.entry.pass) (knows r.0) asking.now r.1) }
     ensures handed { IfErr result (λ r. IsPassOf locked.entry.table.now r.0 × IsSamePass locked.entry.pass r.0 × HoldsNone (knows r.0)
@@ -169,8 +180,9 @@ pub fn join_none<'a>(
     Ok((pass, note))
 }
 
-/// Joins a whole tree, whose anchor a search keeps, by an event that ends the search: each longest run of neighbours of one owner becomes
-/// one row, and the others of the run are given to the pool. Where there are none, the pool's anchor isn't taken.
+/// Joins a whole tree, whose anchor a search keeps, by an event that ends the search: each longest run of neighbours of one owner, between
+/// which no mark lies, becomes one row, and the others of the run are given to the pool. Where there are none, the pool's anchor isn't
+/// taken.
 ///
 /// # Errors
 /// `Busy` only where a row was met held by another pass, which never comes to a pass with all the rights; or want of memory. There is
@@ -196,7 +208,7 @@ pub fn join_tree<'a>(
     if let Err(fault) = widen_whole(&mut locked) {
         return Err((locked.release(), fault));
     }
-    let Ok(after) = rejoin(alloc, &locked.part().rows) else {
+    let Ok(after) = rejoin(alloc, &locked.part().rows, locked.marks()) else {
         return Err((locked.release(), Fault::OutOfMemory));
     };
     if after.gone.is_empty() {

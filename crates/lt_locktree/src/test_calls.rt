@@ -1,6 +1,7 @@
 //! Calls by keys of one letter, and what they answer, for the tests.
-ghost use Rattle.std.specs.Prelude.{◌≡◌, ◌<◌, ◌≤◌, IfOk, IfSome};
+ghost use Rattle.std.specs.Prelude.{◌≡◌, ◌<◌, ◌≤◌, [], IfOk, IfSome};
 ghost use Rattle.lt_seq.specs.Yard.{IsPlan};
+ghost use Rattle.lt_rows.specs.Plan.{with_marks};
 ghost use Rattle.lt_locktree.specs.Calls.{IsOfTable, StaysOf};
 
 use crate::answers::{Asked, Named};
@@ -147,7 +148,7 @@ pub(crate) fn two_passes(
     plan: &YardPlan,
 ) -> Result<Option<(Locktree, TreePass, TreePass)>, AllocError>
     requires plan { IsPlan plan.now }
-    ensures of { IfOk result (λ o. IfSome o (λ r. IsOfTable r.0 r.1 × IsOfTable r.0 r.2 × (r.0.rows.plan ≡ plan.now))) }
+    ensures of { IfOk result (λ o. IfSome o (λ r. IsOfTable r.0 r.1 × IsOfTable r.0 r.2 × (r.0.rows.plan ≡ with_marks plan.now []))) }
 {
     let (table, passes) = Locktree::build(alloc, plan)?;
     let mut passes = passes;

@@ -1,11 +1,12 @@
 //! Asks, questions and frees, by one pass.
-ghost use Rattle.std.specs.Prelude.{◌≡◌, ◌<◌, IfOk, IfSome, true};
+ghost use Rattle.std.specs.Prelude.{◌≡◌, ◌<◌, [], IfOk, IfSome, true};
 ghost use Rattle.lt_seq.specs.Yard.{IsPlan};
+ghost use Rattle.lt_rows.specs.Plan.{with_marks};
 ghost use Rattle.lt_locktree.specs.Calls.{sees, IsOfTable, StaysOf};
 
 use crate::locktree::Locktree;
 use crate::tree_pass::TreePass;
-use lt_ranges::KeyRange;
+use lt_ranges::{Key, KeyRange};
 use lt_seq::{Reply, YardPlan};
 use std::alloc::{AllocError, Global};
 use std::test::Fail;
@@ -23,15 +24,27 @@ fn plan(buffer: u64) -> YardPlan
     }
 }
 
-/// A table with its one pass.
+/// A table without marks, with its one pass.
 pub(crate) fn one_pass(
     alloc: Global,
     plan: &YardPlan,
 ) -> Result<Option<(Locktree, TreePass)>, AllocError>
     requires plan { IsPlan plan.now }
-    ensures of { IfOk result (λ o. IfSome o (λ r. IsOfTable r.0 r.1 × (r.0.rows.plan ≡ plan.now))) }
+    ensures of { IfOk result (λ o. IfSome o (λ r. IsOfTable r.0 r.1 × (r.0.rows.plan ≡ with_marks plan.now []))) }
 {
-    let (table, passes) = Locktree::build(alloc, plan)?;
+    one_pass_cut(alloc, plan, Vec::new(alloc))
+}
+
+/// A table whose joins stop at these marks, with its one pass.
+pub(crate) fn one_pass_cut(
+    alloc: Global,
+    plan: &YardPlan,
+    marks: Vec<Key>,
+) -> Result<Option<(Locktree, TreePass)>, AllocError>
+    requires plan { IsPlan plan.now }
+    ensures of { IfOk result (λ o. IfSome o (λ r. IsOfTable r.0 r.1 × (r.0.rows.plan ≡ with_marks plan.now marks.items))) }
+{
+    let (table, passes) = Locktree::build_cut(alloc, plan, marks)?;
     let mut passes = passes;
     match passes.pop() {
         Some(pass) => Ok(Some((table, pass))),

@@ -6,10 +6,10 @@ use Rattle.lt_seq.specs.declared.event.Event.{Event}
 use Rattle.lt_seq.specs.declared.event.Receipt.{Receipt}
 use Rattle.lt_seq.specs.declared.fault.Fault.{Fault}
 use Rattle.lt_seq.specs.declared.fault.Fault.TheVariants.{OutOfMemory, Busy, HistoryFull, OutOfLocks}
-use Rattle.lt_seq.specs.declared.plan.YardPlan.{YardPlan}
+use Rattle.lt_rows.specs.declared.row_plan.RowPlan.{RowPlan}
 use Rattle.lt_seq.specs.Table.{Setting, used}
 use Rattle.lt_seq.specs.History.{after}
-use Rattle.lt_seq.specs.SeqPass.{plain}
+use Rattle.lt_rows.specs.Plan.{setting_of}
 use Rattle.lt_seq.specs.Alone.{AloneCaused}
 use Rattle.lt_seq.specs.Yard.{PassView, Watches, FaultAt, Caused, AskCaused, AskAnswers, AskAnswered, AreNoneOrAll}
 use Rattle.lt_seq.specs.Yard.{bar_for, place_after, places_end}
@@ -22,12 +22,12 @@ use Rattle.lt_manager.specs.Answers.{AnsweredBehind}
 use Rattle.lt_manager.specs.Behind.{AnswersBehind, AsksBehind, AsksBehindAll}
 use Rattle.lt_manager.proofs.EventLaws.{fault_there}
 
-used_is : (k : YardPlan) (log : List Event) → used_after k log ≡ used (after (plain k) log)
+used_is : (k : RowPlan) (log : List Event) → used_after k log ≡ used (after (setting_of k) log)
 unfolding used_after
 used_is k log = refl
 
 -- a look that shows a place and a row below the limit gives leave to take a row
-pub is_licensed : (k : YardPlan) (log : List Event) → place_after (plain k) log < places_end → used (after (plain k) log) < k.limit
+pub is_licensed : (k : RowPlan) (log : List Event) → place_after (setting_of k) log < places_end → used (after (setting_of k) log) < k.limit
     → is_below k log ≡ true
 is_licensed k log room below =
     let rows : used_after k log < k.limit = omega (arith, used_is k log) in
@@ -91,9 +91,9 @@ asked_below setting bar joins seen old new txn deed (Err fault) whole below behi
     }
 
 -- A pass looked: it was p before, and is q then.
-module _ (p q : Kept) (bar txn : ℕ) (deed : Deed) (watches : Watches (plain (sees p.pass).plan) (view_of p) (view_of q)) where
+module _ (p q : Kept) (bar txn : ℕ) (deed : Deed) (watches : Watches (setting_of (sees p.pass).plan) (view_of p) (view_of q)) where
   abbrev setting : Setting
-  setting = plain (sees p.pass).plan
+  setting = setting_of (sees p.pass).plan
 
   -- its first look shows no place
   pub first_fails : (fault : Fault) (result : Result Receipt Fault) → result ≡ Err fault → 0 < setting.plan.trees
@@ -125,12 +125,12 @@ module _ (p q : Kept) (bar txn : ℕ) (deed : Deed) (watches : Watches (plain (s
       (record { all = all; place_is = place_is; room = room; used_is = used_is; reached = reached })
 
   module _ (new : PassView) (result : Result Receipt Fault) (plan : (sees q.pass).plan ≡ (sees p.pass).plan) where
-    there : Watches (plain (sees q.pass).plan) (view_of p) (view_of q)
-    there = subst (λ (k : YardPlan). Watches (plain k) (view_of p) (view_of q)) (sym plan) watches
+    there : Watches (setting_of (sees q.pass).plan) (view_of p) (view_of q)
+    there = subst (λ (k : RowPlan). Watches (setting_of k) (view_of p) (view_of q)) (sym plan) watches
 
     behind_look : AnswersBehind q new txn deed result → AnsweredBehind setting (sees q.pass).front (view_of p) new txn deed result
     behind_look behind =
-        subst (λ (k : YardPlan). AnsweredBehind (plain k) (sees q.pass).front (view_of p) new txn deed result) plan
+        subst (λ (k : RowPlan). AnsweredBehind (setting_of k) (sees q.pass).front (view_of p) new txn deed result) plan
         (behind (view_of p) there)
 
     -- it asks behind the joins of all trees
@@ -150,4 +150,4 @@ module _ (p q : Kept) (bar txn : ℕ) (deed : Deed) (watches : Watches (plain (s
     -- or it joins first
     pub asks_joining : AsksBehind q new bar txn deed result → AskAnswers setting bar (view_of p) new txn deed result
     asks_joining behind =
-        subst (λ (k : YardPlan). AskAnswers (plain k) bar (view_of p) new txn deed result) plan (behind (view_of p) there)
+        subst (λ (k : RowPlan). AskAnswers (setting_of k) bar (view_of p) new txn deed result) plan (behind (view_of p) there)

@@ -2,8 +2,8 @@
 use Rattle.std.proofs.Common.{◌≡◌, ℕ, zero, suc, ◌+◌, ◌-◌, List, [], ◌∷◌, ◌++◌, map, refl, sym, ap, ◌∙◌, subst, arith, append-nil}
 use Rattle.std.specs.List.{All, AllByRecursion}
 use Rattle.std.proofs.lemmas.List.Elements.{All-nil, All-cons, All-head, All-tail}
-use Rattle.lt_seq.specs.declared.plan.YardPlan.{YardPlan}
-use Rattle.lt_seq.specs.SeqPass.{plain}
+use Rattle.lt_rows.specs.declared.row_plan.RowPlan.{RowPlan}
+use Rattle.lt_rows.specs.Plan.{setting_of}
 use Rattle.lt_seq.specs.Yard.{IsSound}
 use Rattle.lt_seq.specs.Passes.{numbers_from, opening_view, opening_passes}
 use Rattle.lt_rows.specs.declared.view.View.{View}
@@ -56,7 +56,7 @@ module _ (t : Locktree) (passes rest left : List TreePass) (made : List Kept) (x
 
   -- the next is sound
   pub made_sound : IsKept (bare x)
-  made_sound = subst (λ (v : View). IsSound (plain v.plan) (view_with v [] [])) (sym fresh_here.knows_is)
+  made_sound = subst (λ (v : View). IsSound (setting_of v.plan) (view_with v [] [])) (sym fresh_here.knows_is)
       (record { legal = tt; mine = refl })
 
   -- and is one more
@@ -75,7 +75,7 @@ all_of : (t : Locktree) (passes : List TreePass) → All (IsFresh t) passes → 
 all_of t [] all = tt
 all_of t (p ∷ ps) all =
     let fresh = All-head (IsFresh t) p ps all in
-    (λ i. record { identity = identity_of (fresh.of.0 i); setting = plain (fresh.of.1 i) }, all_of t ps (All-tail (IsFresh t) p ps all))
+    (λ i. record { identity = identity_of (fresh.of.0 i); setting = setting_of (fresh.of.1 i) }, all_of t ps (All-tail (IsFresh t) p ps all))
 
 -- and each has seen and done nothing
 fresh_view : (t : Locktree) (p : TreePass) → IsFresh t p → view_of (bare p)
@@ -93,7 +93,7 @@ fresh_views t (p ∷ ps) all =
     let others = fresh_views t ps (All-tail (IsFresh t) p ps all) in
     λ i. one i ∷ others i
 
-later_views : (plan : YardPlan) (n more : ℕ)
+later_views : (plan : RowPlan) (n more : ℕ)
     → map (λ (m : ℕ). opening_view m (rights_at plan m)) (numbers_from (n + 1) more)
     ≡ map (λ (m : ℕ). opening_view m 0) (numbers_from (n + 1) more)
 later_views plan n zero = refl
@@ -101,7 +101,7 @@ later_views plan n (suc more) =
     let others = later_views plan (n + 1) more in
     λ i. opening_view (n + 1) (sym (rights_later plan n) i) ∷ others i
 
-all_views : (plan : YardPlan) (count : ℕ) → plan.passes ≡ count
+all_views : (plan : RowPlan) (count : ℕ) → plan.passes ≡ count
     → map (λ (n : ℕ). opening_view n (rights_at plan n)) (numbers_from 0 count) ≡ opening_passes count
 all_views plan zero is = refl
 all_views plan (suc more) is =

@@ -6,10 +6,10 @@ use Rattle.std.proofs.lemmas.List.Elements.{All-nil, All-cons, All-head, All-tai
 use Rattle.std.proofs.lemmas.List.{map-append}
 use Rattle.lt_seq.specs.declared.event.Event.{Event}
 use Rattle.lt_seq.specs.declared.event.Receipt.{Receipt}
-use Rattle.lt_seq.specs.declared.plan.YardPlan.{YardPlan}
+use Rattle.lt_rows.specs.declared.row_plan.RowPlan.{RowPlan}
 use Rattle.lt_seq.specs.declared.yard.Closed.{Closed}
 use Rattle.lt_seq.specs.History.{IsFront, after, calls_from}
-use Rattle.lt_seq.specs.SeqPass.{plain}
+use Rattle.lt_rows.specs.Plan.{setting_of}
 use Rattle.lt_seq.specs.Yard.{PassView}
 use Rattle.lt_seq.specs.Passes.{AreAll, FirstHasAll, IsRest, front_of_first, held_from}
 use Rattle.lt_seq.proofs.HistoryLaws.{calls-append}
@@ -26,8 +26,8 @@ use Rattle.lt_manager.proofs.OriginLaws.{of_table}
 use Rattle.lt_manager.proofs.PassLaws.{used_is}
 
 -- a sound pass that misses what others made alone has the receipts of all its events
-pub calls_of : (plan : YardPlan) (events : List Event) (k : Kept) → (sees k.pass).plan ≡ plan → IsKept k → MissesOthers events (sees k.pass)
-    → HasItsCalls (plain plan) events (view_of k)
+pub calls_of : (plan : RowPlan) (events : List Event) (k : Kept) → (sees k.pass).plan ≡ plan → IsKept k → MissesOthers events (sees k.pass)
+    → HasItsCalls (setting_of plan) events (view_of k)
 calls_of plan events k same sound (rest, is, others) =
     let v : View = sees k.pass in
     let number : ℕ = v.mark - 1 in
@@ -39,7 +39,7 @@ calls_of plan events k same sound (rest, is, others) =
       front = (rest, is);
       mine =
           sound.mine
-          ∙ (ap (λ (p : YardPlan). calls_from p.first number v.front) same
+          ∙ (ap (λ (p : RowPlan). calls_from p.first number v.front) same
           ∙ (sym (append-nil (calls_from plan.first number v.front))
           ∙ (ap (λ (l : List Receipt). calls_from plan.first number v.front ++ l) (sym none)
           ∙ (sym (calls-append plan.first number v.front rest) ∙ ap (calls_from plan.first number) (sym is)))));
@@ -62,7 +62,7 @@ pub record AreGathered (t : Locktree) (passes rest : List Kept) (events : List E
   pub done : List Kept
   pub all : done ++ rest ≡ passes
   pub lists_are : lists ≡ map (λ (k : Kept). k.mine) done
-  pub calls : All (λ (k : Kept). HasItsCalls (plain t.rows.plan) events (view_of k)) done
+  pub calls : All (λ (k : Kept). HasItsCalls (setting_of t.rows.plan) events (view_of k)) done
   pub of : AllByRecursion (IsPassOfTable t) rest
   pub closes : ClosesIt t first
   pub front : (sees first).front ≡ events
@@ -74,7 +74,7 @@ plan_of t k x is of = ap (λ (y : Kept). (sees y.pass).plan) is ∙ (of_table t 
 module _ (t : Locktree) (passes rest left : List Kept) (events : List Event) (first now : TreePass) (lists more : List (List Receipt))
     (x k : Kept) where
   abbrev Calls : Kept → Type 0
-  Calls p = HasItsCalls (plain t.rows.plan) events (view_of p)
+  Calls p = HasItsCalls (setting_of t.rows.plan) events (view_of p)
 
   -- the next is of the table
   pub gathered_next : AreGathered t passes rest events first lists → rest ≡ x ∷ left → k ≡ x → IsOfTable t k.pass
@@ -106,15 +106,15 @@ module _ (t : Locktree) (passes rest left : List Kept) (events : List Event) (fi
 
 -- the first has all the rights, and its front is the history
 pub gathered_first : (t : Locktree) (passes left : List Kept) (x k : Kept) (lists : List (List Receipt)) → passes ≡ x ∷ left
-    → AllByRecursion (IsPassOfTable t) passes → FirstHasAll (plain t.rows.plan) (map view_of passes) → k ≡ x → IsKept k → lists
+    → AllByRecursion (IsPassOfTable t) passes → FirstHasAll (setting_of t.rows.plan) (map view_of passes) → k ≡ x → IsKept k → lists
     ≡ k.mine ∷ []
     → AreGathered t passes left (front_of_first (map view_of passes)) k.pass lists
 gathered_first t passes left x k lists next of first is sound pushed =
     let all : AllByRecursion (IsPassOfTable t) (x ∷ left) = subst (AllByRecursion (IsPassOfTable t)) next of in
-    let rights = subst (λ (l : List Kept). FirstHasAll (plain t.rows.plan) (map view_of l)) next first in
+    let rights = subst (λ (l : List Kept). FirstHasAll (setting_of t.rows.plan) (map view_of l)) next first in
     let front : (sees k.pass).front ≡ front_of_first (map view_of passes) =
     ap (λ (y : Kept). (sees y.pass).front) is ∙ ap (λ (l : List Kept). front_of_first (map view_of l)) (sym next) in
-    let calls : HasItsCalls (plain t.rows.plan) (front_of_first (map view_of passes)) (view_of k) =
+    let calls : HasItsCalls (setting_of t.rows.plan) (front_of_first (map view_of passes)) (view_of k) =
     calls_of t.rows.plan (front_of_first (map view_of passes)) k (plan_of t k x is all.0) sound
     ([], sym front ∙ sym (append-nil (sees k.pass).front), λ number low high. tt) in
     record {
@@ -132,7 +132,7 @@ gathered_first t passes left x k lists next of first is sound pushed =
     }
   where
     Calls : Kept → Type 0
-    Calls p = HasItsCalls (plain t.rows.plan) (front_of_first (map view_of passes)) (view_of p)
+    Calls p = HasItsCalls (setting_of t.rows.plan) (front_of_first (map view_of passes)) (view_of p)
 
 -- all were gathered
 module _ (t : Locktree) (passes rest : List Kept) (events : List Event) (first : TreePass) (lists : List (List Receipt))
@@ -140,20 +140,20 @@ module _ (t : Locktree) (passes rest : List Kept) (events : List Event) (first :
   done_is : are.done ≡ passes
   done_is = sym (append-nil are.done) ∙ (ap (λ (l : List Kept). are.done ++ l) (sym none) ∙ are.all)
 
-  pub gathered_calls : All (λ (k : Kept). HasItsCalls (plain t.rows.plan) events (view_of k)) passes
-  gathered_calls = subst (All (λ (k : Kept). HasItsCalls (plain t.rows.plan) events (view_of k))) done_is are.calls
+  pub gathered_calls : All (λ (k : Kept). HasItsCalls (setting_of t.rows.plan) events (view_of k)) passes
+  gathered_calls = subst (All (λ (k : Kept). HasItsCalls (setting_of t.rows.plan) events (view_of k))) done_is are.calls
 
   pub gathered_lists : lists ≡ map (λ (k : Kept). k.mine) passes
   gathered_lists = are.lists_are ∙ ap (map (λ (k : Kept). k.mine)) done_is
 
 -- the passes' own receipts are the lists of the history
-own_lists : (plan : YardPlan) (events : List Event) (passes : List Kept)
-    → All (λ (k : Kept). HasItsCalls (plain plan) events (view_of k)) passes
+own_lists : (plan : RowPlan) (events : List Event) (passes : List Kept)
+    → All (λ (k : Kept). HasItsCalls (setting_of plan) events (view_of k)) passes
     → map (λ (k : Kept). k.mine) passes ≡ map (λ (n : ℕ). calls_from plan.first n events)
     (map (λ (p : PassView). p.number) (map view_of passes))
 own_lists plan events [] all = refl
 own_lists plan events (k ∷ ks) all =
-    let Calls = λ (x : Kept). HasItsCalls (plain plan) events (view_of x) in
+    let Calls = λ (x : Kept). HasItsCalls (setting_of plan) events (view_of x) in
     let one = (All-head Calls k ks all).mine in
     let others = own_lists plan events ks (All-tail Calls k ks all) in
     λ i. one i ∷ others i
@@ -163,14 +163,14 @@ mine_of [] = refl
 mine_of (k ∷ ks) = ap (λ (l : List (List Receipt)). k.mine ∷ l) (mine_of ks)
 
 -- what a closed table leaves is what its yard leaves
-pub rest_is : (plan : YardPlan) (passes : List Kept) (events : List Event) (closed : Closed) → AreAll (plain plan) (map view_of passes)
-    → All (λ (k : Kept). HasItsCalls (plain plan) events (view_of k)) passes → map (λ v. v.items) closed.lists.items
+pub rest_is : (plan : RowPlan) (passes : List Kept) (events : List Event) (closed : Closed) → AreAll (setting_of plan) (map view_of passes)
+    → All (λ (k : Kept). HasItsCalls (setting_of plan) events (view_of k)) passes → map (λ v. v.items) closed.lists.items
     ≡ map (λ (k : Kept). k.mine) passes
-    → closed.places ≡ length events → closed.used ≡ used_after plan events → closed.left.items ≡ held_from 0 (after (plain plan) events)
-    → IsRest (plain plan) events (map view_of passes) closed
+    → closed.places ≡ length events → closed.used ≡ used_after plan events → closed.left.items ≡ held_from 0 (after (setting_of plan) events)
+    → IsRest (setting_of plan) events (map view_of passes) closed
 rest_is plan passes events closed all calls lists places used_rows left = record {
   fronts = All-map (λ (p : PassView). IsFront p.front events) view_of passes
-      (All-weaker (λ (k : Kept). HasItsCalls (plain plan) events (view_of k)) (λ (k : Kept). IsFront (sees k.pass).front events)
+      (All-weaker (λ (k : Kept). HasItsCalls (setting_of plan) events (view_of k)) (λ (k : Kept). IsFront (sees k.pass).front events)
       (λ k has. has.front) passes calls);
   mine = lists ∙ mine_of passes;
   lists = lists ∙ (own_lists plan events passes calls ∙ ap (map (λ (n : ℕ). calls_from plan.first n events)) all.numbers);

@@ -5,10 +5,10 @@ use Rattle.lt_seq.specs.declared.event.Deed.TheVariants.{Join}
 use Rattle.lt_seq.specs.declared.event.Event.{Event}
 use Rattle.lt_seq.specs.declared.event.Receipt.{Receipt}
 use Rattle.lt_seq.specs.declared.fault.Fault.{Fault}
-use Rattle.lt_seq.specs.declared.plan.YardPlan.{YardPlan}
+use Rattle.lt_rows.specs.declared.row_plan.RowPlan.{RowPlan}
 use Rattle.lt_seq.specs.Table.{Setting, used}
 use Rattle.lt_seq.specs.History.{after}
-use Rattle.lt_seq.specs.SeqPass.{plain}
+use Rattle.lt_rows.specs.Plan.{setting_of}
 use Rattle.lt_seq.specs.SeqCalls.{HasJoined, JoinsStop}
 use Rattle.lt_seq.specs.Yard.{PassView, Happens, FaultAt, Answers, Caused, AskAnswers, AskAnswered, JoinsOne}
 use Rattle.lt_seq.proofs.YardLaws.{ask_answers_of, asks_midway, has_joined_none, joined_more}
@@ -43,7 +43,7 @@ one_more setting bar old joined new txn trees r has join reached = record {
 -- p has looked
 module _ (p : Kept) (new : PassView) (txn : ℕ) where
   abbrev setting : Setting
-  setting = plain (sees p.pass).plan
+  setting = setting_of (sees p.pass).plan
 
   -- the first join stands behind that look
   pub joined_first : (r : Receipt) → AnswersBehind p new txn (Join 0 0 0) (Ok r) → JoinedBehind p new txn 1
@@ -59,16 +59,16 @@ module _ (p : Kept) (new : PassView) (txn : ℕ) where
 
   -- and each further one behind its own
   module _ (q : Kept) (tree : ℕ) (plan : (sees q.pass).plan ≡ (sees p.pass).plan) (joined : JoinedBehind p (view_of q) txn tree) where
-    pub joined_next : (r : Receipt) → 1 ≤ tree → Answers (plain (sees q.pass).plan) (view_of q) new txn (Join tree 0 0) (Ok r)
+    pub joined_next : (r : Receipt) → 1 ≤ tree → Answers (setting_of (sees q.pass).plan) (view_of q) new txn (Join tree 0 0) (Ok r)
         → JoinedBehind p new txn (tree + 1)
     joined_next r further answers bar full old watches =
         let join : Happens setting (view_of q) new txn (Join tree 0 0) r =
-        subst (λ (k : YardPlan). Happens (plain k) (view_of q) new txn (Join tree 0 0) r) plan answers.answer in
+        subst (λ (k : RowPlan). Happens (setting_of k) (view_of q) new txn (Join tree 0 0) r) plan answers.answer in
         one_more setting bar old (view_of q) new txn tree r (joined bar full old watches) join
         (λ none. absurd (omega (arith, further, none)))
 
     pub stops_next : (trees : ℕ) (fault : Fault) → tree < trees
-        → Answers (plain (sees q.pass).plan) (view_of q) new txn (Join tree 0 0) (Err fault) → StopsBehind p new txn trees fault
+        → Answers (setting_of (sees q.pass).plan) (view_of q) new txn (Join tree 0 0) (Err fault) → StopsBehind p new txn trees fault
     stops_next trees fault few answers bar full old watches =
         let has : HasJoined setting bar old (view_of q) txn tree = joined bar full old watches in
         record {
@@ -76,7 +76,7 @@ module _ (p : Kept) (new : PassView) (txn : ℕ) where
           joined = view_of q;
           count = omega (arith, has.count, few);
           chain = has.chain;
-          at = subst (λ (k : YardPlan). FaultAt (plain k) (view_of q) new (Caused (plain k) (view_of q) new fault)) plan answers.answer;
+          at = subst (λ (k : RowPlan). FaultAt (setting_of k) (view_of q) new (Caused (setting_of k) (view_of q) new fault)) plan answers.answer;
         }
 
   -- the ask behind all of them, or none where they stop
@@ -86,8 +86,8 @@ module _ (p : Kept) (new : PassView) (txn : ℕ) where
     joins_then_ask q result plan joined asks old watches =
         let has : HasJoined setting bar old (view_of q) txn trees = joined bar full old watches in
         ask_answers_of setting bar old (view_of q) new txn deed result has.joins (omega (arith, has.count, all)) has.chain
-        (subst (λ (k : YardPlan). AskAnswered (plain k) bar has.joins (view_of q) new txn deed result) plan
-        (asks has.joins (has.count ∙ (all ∙ sym (ap (λ (k : YardPlan). k.trees) plan)))))
+        (subst (λ (k : RowPlan). AskAnswered (setting_of k) bar has.joins (view_of q) new txn deed result) plan
+        (asks has.joins (has.count ∙ (all ∙ sym (ap (λ (k : RowPlan). k.trees) plan)))))
 
     pub joins_stop : (fault : Fault) (result : Result Receipt Fault) → result ≡ Err fault → StopsBehind p new txn trees fault
         → AsksBehind p new bar txn deed result

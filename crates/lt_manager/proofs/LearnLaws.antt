@@ -3,9 +3,9 @@ use Rattle.std.proofs.Common.{◌≡◌, ℕ, ◌+◌, ◌-◌, ◌≤◌, Bool,
 use Rattle.lt_seq.specs.declared.event.Event.{Event}
 use Rattle.lt_seq.specs.declared.event.Receipt.{Receipt}
 use Rattle.lt_seq.specs.declared.event.JoinNote.{JoinNote}
-use Rattle.lt_seq.specs.declared.plan.YardPlan.{YardPlan}
+use Rattle.lt_rows.specs.declared.row_plan.RowPlan.{RowPlan}
 use Rattle.lt_seq.specs.History.{IsLegal, IsFront}
-use Rattle.lt_seq.specs.SeqPass.{plain}
+use Rattle.lt_rows.specs.Plan.{setting_of}
 use Rattle.lt_seq.specs.Yard.{NoteView, IsSound, IsLonger, Learns}
 use Rattle.lt_rows.specs.declared.view.View.{View}
 use Rattle.lt_rows.specs.Views.{learner, longer_if}
@@ -19,25 +19,25 @@ module _ (v w u : View) (learned : u ≡ learner v w) (told : IsFront w.front u.
   longer_by true is = inr (is, (more.0, sym is ∙ more.1))
   longer_by false is = inl (is, subst (IsFront w.front) is told)
 
-  legal_by : (test : Bool) → u.front ≡ longer_if test v.front w.front → IsLegal (plain v.plan) v.front → IsLegal (plain v.plan) w.front
-      → IsLegal (plain v.plan) u.front
-  legal_by true is own other = subst (IsLegal (plain v.plan)) (sym is) other
-  legal_by false is own other = subst (IsLegal (plain v.plan)) (sym is) own
+  legal_by : (test : Bool) → u.front ≡ longer_if test v.front w.front → IsLegal (setting_of v.plan) v.front → IsLegal (setting_of v.plan) w.front
+      → IsLegal (setting_of v.plan) u.front
+  legal_by true is own other = subst (IsLegal (setting_of v.plan)) (sym is) other
+  legal_by false is own other = subst (IsLegal (setting_of v.plan)) (sym is) own
 
   front_is : u.front ≡ longer_if (nat_lt (length v.front) (length w.front)) v.front w.front
   front_is = ap (λ (x : View). x.front) learned
 
   module _ (mine : List Receipt) (notes : List JoinNote) (one : v.numbers ≡ 1) (pass : 1 ≤ v.mark)
-      (sound : IsSound (plain v.plan) (view_with v mine notes)) (legal : IsLegal (plain v.plan) w.front) where
+      (sound : IsSound (setting_of v.plan) (view_with v mine notes)) (legal : IsLegal (setting_of v.plan) w.front) where
     -- it stays sound
-    pub learned_sound : IsSound (plain u.plan) (view_with u mine notes)
+    pub learned_sound : IsSound (setting_of u.plan) (view_with u mine notes)
     learned_sound =
         sound_on v u more.0 mine notes one pass (ap (λ (x : View). x.plan) learned) (ap (λ (x : View). x.mark) learned) more.1 more.2
-        (subst (IsLegal (plain v.plan)) more.1 (legal_by (nat_lt (length v.front) (length w.front)) front_is sound.legal legal)) sound
+        (subst (IsLegal (setting_of v.plan)) more.1 (legal_by (nat_lt (length v.front) (length w.front)) front_is sound.legal legal)) sound
 
     -- and adds the rights, and takes the longer front
     pub learns : (note : NoteView) → note.rights ≡ w.rights → note.front ≡ w.front
-        → Learns (plain v.plan) (view_with v mine notes) note (view_with u mine notes)
+        → Learns (setting_of v.plan) (view_with v mine notes) note (view_with u mine notes)
     learns note rights front = record {
       same = λ i. record {
         number = (learned i).mark - 1;
@@ -51,5 +51,5 @@ module _ (v w u : View) (learned : u ≡ learner v w) (told : IsFront w.front u.
       };
       longer = subst (λ (es : List Event). IsLonger v.front es u.front) (sym front)
           (longer_by (nat_lt (length v.front) (length w.front)) front_is);
-      sound = subst (λ (k : YardPlan). IsSound (plain k) (view_with u mine notes)) (ap (λ (x : View). x.plan) learned) learned_sound;
+      sound = subst (λ (k : RowPlan). IsSound (setting_of k) (view_with u mine notes)) (ap (λ (x : View). x.plan) learned) learned_sound;
     }

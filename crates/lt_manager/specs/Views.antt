@@ -1,11 +1,11 @@
 -- What contracts see of a pass.
 use Rattle.std.specs.Prelude.{◌≡◌, ℕ, ◌-◌, List, ◌∷◌}
 use Rattle.atomic_table.specs.Seated.{TableId}
-use Rattle.lt_seq.specs.declared.plan.YardPlan.{YardPlan}
+use Rattle.lt_rows.specs.declared.row_plan.RowPlan.{RowPlan}
 use Rattle.lt_seq.specs.declared.event.Receipt.{Receipt}
 use Rattle.lt_seq.specs.declared.event.JoinNote.{JoinNote}
 use Rattle.lt_seq.specs.History.{IsLegal}
-use Rattle.lt_seq.specs.SeqPass.{plain}
+use Rattle.lt_rows.specs.Plan.{setting_of}
 use Rattle.lt_seq.specs.Yard.{PassView, NoteView, Origin, origin_of, IsSound}
 use Rattle.lt_rows.specs.declared.view.View.{View}
 use Rattle.lt_rows.specs.declared.note.RowNote.{RowNote}
@@ -42,34 +42,37 @@ abbrev pub identity_of : TableId → List ℕ
 identity_of id = id.words ∷ id.slots ∷ id.views_name ∷ id.atom ∷ id.block ∷ id.offset ∷ id.slot_names
 
 abbrev pub origin_in : Kept → Origin
-origin_in p = origin_of (identity_of p.pass.pass.place.table_id) (plain (sees p.pass).plan)
+origin_in p = origin_of (identity_of p.pass.pass.place.table_id) (setting_of (sees p.pass).plan)
 
 -- the origin of the passes and notes of a table
 abbrev pub origin_at : Locktree → Origin
-origin_at t = origin_of (identity_of t.rows.table.shared.table_id) (plain t.rows.plan)
+origin_at t = origin_of (identity_of t.rows.table.shared.table_id) (setting_of t.rows.plan)
 
 abbrev pub IsPassOfTable : Locktree → Kept → Type 0
 IsPassOfTable t p = origin_in p ≡ origin_at t
 
 -- its front is a legal history, and its receipts are of its own events there
 abbrev pub IsKept : Kept → Type 0
-IsKept p = IsSound (plain (sees p.pass).plan) (view_of p)
+IsKept p = IsSound (setting_of (sees p.pass).plan) (view_of p)
 
--- a note with the plan of its table
+-- a note of the rows
 pub record Noted : Type 0 where
   pub note : RowNote
-  pub plan : YardPlan
+
+-- the plan of its table
+abbrev pub plan_of : Noted → RowPlan
+plan_of n = (view n.note.place).plan
 
 abbrev pub told_by : Noted → NoteView
 told_by n = record { rights = n.note.rights; front = (view n.note.place).front }
 
 abbrev pub note_origin : Noted → Origin
-note_origin n = origin_of (identity_of n.note.place.table_id) (plain n.plan)
+note_origin n = origin_of (identity_of n.note.place.table_id) (setting_of (plan_of n))
 
 -- its front is a legal history
 abbrev pub IsNoted : Noted → Type 0
-IsNoted n = IsLegal (plain n.plan) (view n.note.place).front
+IsNoted n = IsLegal (setting_of (plan_of n)) (view n.note.place).front
 
 -- the note was made for this table
 abbrev pub IsNoteOfTable : Locktree → Noted → Type 0
-IsNoteOfTable t n = IsNoteOf t.rows n.note × (n.plan ≡ t.rows.plan)
+IsNoteOfTable t n = IsNoteOf t.rows n.note × (plan_of n ≡ t.rows.plan)

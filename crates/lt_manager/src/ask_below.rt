@@ -9,7 +9,7 @@ impl ManagerPass {
     ghost use Rattle.std.specs.Prelude.{◌≡◌, ◌<◌, ◌≤◌, true};
     ghost use Rattle.lt_seq.specs.declared.event.Deed.TheVariants.{Ask};
     ghost use Rattle.lt_seq.specs.declared.event.Reply.TheVariants.{Granted};
-    ghost use Rattle.lt_seq.specs.SeqPass.{plain};
+    ghost use Rattle.lt_rows.specs.Plan.{setting_of};
     ghost use Rattle.lt_seq.specs.Yard.{place_after, places_end};
     ghost use Rattle.lt_locktree.specs.Calls.{sees, IsOfTable, StaysOf};
     ghost use Rattle.lt_manager.specs.Views.{view_of};
@@ -26,7 +26,7 @@ impl ManagerPass {
         requires of { IsOfTable table.now self.old.pass }
         requires right { 0 < (sees self.old.pass).rights }
         requires fresh { ((sees self.old.pass).fresh ≡ true) × ((sees self.old.pass).licensed ≡ true) }
-        requires room { place_after (plain (sees self.old.pass).plan) (sees self.old.pass).front < places_end }
+        requires room { place_after (setting_of (sees self.old.pass).plan) (sees self.old.pass).front < places_end }
         requires txn { 0 < txn }
         requires tree { tree < table.now.rows.plan.trees }
         ensures of { StaysOf table.now self.old.pass self.new.pass }

@@ -11,7 +11,7 @@ impl ManagerPass {
     ghost use Rattle.lt_seq.specs.declared.event.Reply.TheVariants.{Granted};
     ghost use Rattle.lt_seq.specs.Table.{used};
     ghost use Rattle.lt_seq.specs.History.{after};
-    ghost use Rattle.lt_seq.specs.SeqPass.{plain};
+    ghost use Rattle.lt_rows.specs.Plan.{setting_of};
     ghost use Rattle.lt_seq.specs.Yard.{AskAnswers, bar_for, place_after, places_end};
     ghost use Rattle.lt_locktree.specs.Calls.{sees, IsOfTable, StaysOf};
     ghost use Rattle.lt_manager.specs.Views.{view_of};
@@ -29,11 +29,11 @@ impl ManagerPass {
         requires of { IsOfTable table.now self.old.pass }
         requires right { 0 < (sees self.old.pass).rights }
         requires fresh { (sees self.old.pass).fresh ≡ true }
-        requires room { place_after (plain (sees self.old.pass).plan) (sees self.old.pass).front < places_end }
+        requires room { place_after (setting_of (sees self.old.pass).plan) (sees self.old.pass).front < places_end }
         requires txn { 0 < txn }
         requires tree { tree < table.now.rows.plan.trees }
         requires bar { bar ≤ table.now.rows.plan.limit }
-        requires full { bar ≤ used (after (plain (sees self.old.pass).plan) (sees self.old.pass).front) }
+        requires full { bar ≤ used (after (setting_of (sees self.old.pass).plan) (sees self.old.pass).front) }
         ensures of { StaysOf table.now self.old.pass self.new.pass }
         ensures answer { AsksBehind self.old (view_of self.new) bar txn (Ask tree range.now Granted) result }
     {
@@ -58,7 +58,7 @@ impl ManagerPass {
         requires txn { 0 < txn }
         requires tree { tree < table.now.rows.plan.trees }
         ensures of { StaysOf table.now self.old.pass self.new.pass }
-        ensures answer { AskAnswers (plain (sees self.old.pass).plan) (bar_for (plain (sees self.old.pass).plan) big) (view_of self.old)
+        ensures answer { AskAnswers (setting_of (sees self.old.pass).plan) (bar_for (setting_of (sees self.old.pass).plan) big) (view_of self.old)
             (view_of self.new) txn (Ask tree range.now Granted) result }
     {
         let bar = bar_for(table.plan(), big);

@@ -1,7 +1,7 @@
 //! The end of a table.
 ghost use Rattle.std.specs.Prelude.{◌≡◌, map, IfOk};
 ghost use Rattle.std.specs.List.{All, AllByRecursion};
-ghost use Rattle.lt_seq.specs.SeqPass.{plain};
+ghost use Rattle.lt_rows.specs.Plan.{setting_of};
 ghost use Rattle.lt_seq.specs.Passes.{AreAll, FirstHasAll, IsRest, front_of_first};
 ghost use Rattle.lt_locktree.specs.Calls.{sees, IsOfTable, ClosesIt};
 ghost use Rattle.lt_manager.specs.Views.{view_of, IsPassOfTable};
@@ -33,11 +33,11 @@ fn gather(
     passes: Vec<ManagerPass>,
 ) -> Result<(TreePass, Vec<Vec<Receipt>>), AllocError>
     requires of { AllByRecursion (IsPassOfTable table.now) passes.items }
-    requires first { FirstHasAll (plain table.now.rows.plan) (map view_of passes.items) }
+    requires first { FirstHasAll (setting_of table.now.rows.plan) (map view_of passes.items) }
     ensures first { IfOk result (λ r. ClosesIt table.now r.0 × ((sees r.0).front ≡ front_of_first (map view_of passes.items))) }
     ensures lists { IfOk result (λ r. map (λ v. v.items) r.1.items ≡ map (λ p. p.mine) passes.items) }
     ensures calls { IfOk result (λ r.
-        All (λ p. HasItsCalls (plain table.now.rows.plan) (front_of_first (map view_of passes.items)) (view_of p)) passes.items) }
+        All (λ p. HasItsCalls (setting_of table.now.rows.plan) (front_of_first (map view_of passes.items)) (view_of p)) passes.items) }
 {
     let mut lists = Vec::new(alloc);
     let mut others = passes.into_iter();
@@ -69,8 +69,8 @@ pub(crate) fn close(
     passes: Vec<ManagerPass>,
 ) -> Result<Closed, AllocError>
     requires of { AllByRecursion (IsPassOfTable table) passes.items }
-    requires all { AreAll (plain table.rows.plan) (map view_of passes.items) }
-    ensures rest { IfOk result (IsRest (plain table.rows.plan) (front_of_first (map view_of passes.items)) (map view_of passes.items)) }
+    requires all { AreAll (setting_of table.rows.plan) (map view_of passes.items) }
+    ensures rest { IfOk result (IsRest (setting_of table.rows.plan) (front_of_first (map view_of passes.items)) (map view_of passes.items)) }
 {
     let (pass, lists) = gather(&table, alloc, passes)?;
     let mut first = Vec::new(alloc);

@@ -9,7 +9,7 @@ use std::mem;
 impl ManagerPass {
     ghost use Rattle.std.specs.Prelude.{◌≡◌, ◌<◌, true, []};
     ghost use Rattle.lt_seq.specs.declared.event.Deed.TheVariants.{Join};
-    ghost use Rattle.lt_seq.specs.SeqPass.{plain};
+    ghost use Rattle.lt_rows.specs.Plan.{setting_of};
     ghost use Rattle.lt_seq.specs.Yard.{PassView, Watches, Answers, place_after, places_end};
     ghost use Rattle.lt_locktree.specs.Calls.{sees, IsOfTable, StaysOf};
     ghost use Rattle.lt_manager.specs.Views.{view_of};
@@ -21,7 +21,7 @@ impl ManagerPass {
         requires right { 0 < (sees self.old.pass).rights }
         requires tree { tree < table.now.rows.plan.trees }
         ensures of { StaysOf table.now self.old.pass self.new.pass }
-        ensures answer { Answers (plain (sees self.old.pass).plan) (view_of self.old) (view_of self.new) txn (Join tree 0 0) result }
+        ensures answer { Answers (setting_of (sees self.old.pass).plan) (view_of self.old) (view_of self.new) txn (Join tree 0 0) result }
     {
         self.look_for_place(table)?;
         self.join_at(table, txn, tree)
@@ -37,11 +37,11 @@ impl ManagerPass {
         requires of { IsOfTable table.now self.old.pass }
         requires right { 0 < (sees self.old.pass).rights }
         requires fresh { (sees self.old.pass).fresh ≡ true }
-        requires room { place_after (plain (sees self.old.pass).plan) (sees self.old.pass).front < places_end }
+        requires room { place_after (setting_of (sees self.old.pass).plan) (sees self.old.pass).front < places_end }
         requires tree { tree < table.now.rows.plan.trees }
         ensures of { StaysOf table.now self.old.pass self.new.pass }
-        ensures answer { (old : PassView) → Watches (plain (sees self.old.pass).plan) old (view_of self.old)
-            → AnsweredBehind (plain (sees self.old.pass).plan) (sees self.old.pass).front old (view_of self.new) txn
+        ensures answer { (old : PassView) → Watches (setting_of (sees self.old.pass).plan) old (view_of self.old)
+            → AnsweredBehind (setting_of (sees self.old.pass).plan) (sees self.old.pass).front old (view_of self.new) txn
             (Join tree 0 0) result }
     {
         self.mine.reserve(1)?;

@@ -8,7 +8,7 @@ use lt_seq::{Deed, Fault, Receipt};
 impl ManagerPass {
     ghost use Rattle.std.specs.Prelude.{◌<◌};
     ghost use Rattle.lt_seq.specs.declared.event.Deed.TheVariants.{Free};
-    ghost use Rattle.lt_seq.specs.SeqPass.{plain};
+    ghost use Rattle.lt_rows.specs.Plan.{setting_of};
     ghost use Rattle.lt_seq.specs.Yard.{Answers};
     ghost use Rattle.lt_locktree.specs.Calls.{sees, IsOfTable, StaysOf};
     ghost use Rattle.lt_manager.specs.Views.{view_of};
@@ -26,7 +26,7 @@ impl ManagerPass {
         requires right { 0 < (sees self.old.pass).rights }
         requires tree { tree < table.now.rows.plan.trees }
         ensures of { StaysOf table.now self.old.pass self.new.pass }
-        ensures answer { Answers (plain (sees self.old.pass).plan) (view_of self.old) (view_of self.new) txn
+        ensures answer { Answers (setting_of (sees self.old.pass).plan) (view_of self.old) (view_of self.new) txn
             (Free tree range.now first 0) result }
     {
         self.look_for_place(table)?;

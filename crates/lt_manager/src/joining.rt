@@ -5,7 +5,7 @@ use lt_seq::Fault;
 
 impl ManagerPass {
     ghost use Rattle.std.specs.Prelude.{◌≡◌, ◌<◌, true, OnOk, IfErr};
-    ghost use Rattle.lt_seq.specs.SeqPass.{plain};
+    ghost use Rattle.lt_rows.specs.Plan.{setting_of};
     ghost use Rattle.lt_seq.specs.Yard.{place_after, places_end};
     ghost use Rattle.lt_locktree.specs.Calls.{sees, IsOfTable, StaysOf};
     ghost use Rattle.lt_manager.specs.Views.{view_of};
@@ -17,7 +17,7 @@ impl ManagerPass {
         requires of { IsOfTable table.now self.old.pass }
         requires right { 0 < (sees self.old.pass).rights }
         requires fresh { (sees self.old.pass).fresh ≡ true }
-        requires room { place_after (plain (sees self.old.pass).plan) (sees self.old.pass).front < places_end }
+        requires room { place_after (setting_of (sees self.old.pass).plan) (sees self.old.pass).front < places_end }
         requires trees { 0 < table.now.rows.plan.trees }
         ensures of { StaysOf table.now self.old.pass self.new.pass }
         ensures ok { OnOk result (JoinedBehind self.old (view_of self.new) txn table.now.rows.plan.trees) }

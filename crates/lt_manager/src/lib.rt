@@ -17,10 +17,12 @@ mod receipts;
 mod sharing;
 mod who;
 
-pub use manager::Manager;
+pub use manager::{Manager, NotBuilt};
 pub use manager_note::ManagerNote;
 pub use manager_pass::ManagerPass;
 
+#[cfg(test)]
+mod cut_tests;
 #[cfg(test)]
 mod history_tests;
 #[cfg(test)]

@@ -1,13 +1,12 @@
 //! What one pass of the lock table hands to another.
 use lt_rows::RowNote;
-use lt_seq::{Note, YardPlan};
+use lt_seq::Note;
 use std::marker::Model;
 
 /// A note that one pass of a `Manager` hands to another. It carries rights, and the history as its pass had seen it.
 #[derive(Drop)]
 pub struct ManagerNote {
     pub(crate) note: RowNote,
-    pub(crate) plan: YardPlan,
 }
 
 impl Model for ManagerNote {
@@ -15,9 +14,9 @@ impl Model for ManagerNote {
 
     ghost Value = { Noted };
 
-    ghost view = { λ n. record { note = n.note; plan = n.plan } };
+    ghost view = { λ n. record { note = n.note } };
 
-    ghost invariant = { λ n. IsNoted (record { note = n.note; plan = n.plan }) };
+    ghost invariant = { λ n. IsNoted (record { note = n.note }) };
 }
 
 impl Note for ManagerNote {

@@ -39,7 +39,7 @@ impl Pass for ManagerPass {
 
 impl ManagerPass {
     ghost use Rattle.std.specs.Prelude.{◌≡◌, ◌<◌, true, OnOk, IfOk, IfErr};
-    ghost use Rattle.lt_seq.specs.SeqPass.{plain};
+    ghost use Rattle.lt_rows.specs.Plan.{setting_of};
     ghost use Rattle.lt_seq.specs.Yard.{shows, Watches, Caused, place_after, places_end};
     ghost use Rattle.lt_seq.specs.Alone.{AloneCaused};
     ghost use Rattle.lt_rows.specs.Views.{is_near, is_below};
@@ -50,8 +50,8 @@ impl ManagerPass {
     pub(crate) fn look(&mut self, table: &Locktree) -> Look
         requires of { IsOfTable table.now self.old.pass }
         ensures of { StaysOf table.now self.old.pass self.new.pass }
-        ensures seen { result ≡ shows (plain (sees self.old.pass).plan) (sees self.new.pass).front }
-        ensures watches { Watches (plain (sees self.old.pass).plan) (view_of self.old) (view_of self.new) }
+        ensures seen { result ≡ shows (setting_of (sees self.old.pass).plan) (sees self.new.pass).front }
+        ensures watches { Watches (setting_of (sees self.old.pass).plan) (view_of self.old) (view_of self.new) }
         ensures fresh { (sees self.new.pass).fresh ≡ is_near (sees self.old.pass).plan (sees self.new.pass).front }
         ensures licensed { (sees self.new.pass).licensed ≡ is_below (sees self.old.pass).plan (sees self.new.pass).front }
     {
@@ -62,14 +62,14 @@ impl ManagerPass {
     pub(crate) fn look_for_place(&mut self, table: &Locktree) -> Result<Look, Fault>
         requires of { IsOfTable table.now self.old.pass }
         ensures of { StaysOf table.now self.old.pass self.new.pass }
-        ensures seen { IfOk result (λ look. look ≡ shows (plain (sees self.old.pass).plan) (sees self.new.pass).front) }
-        ensures room { OnOk result (place_after (plain (sees self.old.pass).plan) (sees self.new.pass).front < places_end) }
+        ensures seen { IfOk result (λ look. look ≡ shows (setting_of (sees self.old.pass).plan) (sees self.new.pass).front) }
+        ensures room { OnOk result (place_after (setting_of (sees self.old.pass).plan) (sees self.new.pass).front < places_end) }
         ensures fresh { OnOk result ((sees self.new.pass).fresh ≡ true) }
         ensures licensed { (sees self.new.pass).licensed ≡ is_below (sees self.old.pass).plan (sees self.new.pass).front }
-        ensures watches { Watches (plain (sees self.old.pass).plan) (view_of self.old) (view_of self.new) }
-        ensures err { IfErr result (λ fault. Caused (plain (sees self.old.pass).plan) (view_of self.old) (view_of self.new) fault
+        ensures watches { Watches (setting_of (sees self.old.pass).plan) (view_of self.old) (view_of self.new) }
+        ensures err { IfErr result (λ fault. Caused (setting_of (sees self.old.pass).plan) (view_of self.old) (view_of self.new) fault
             (sees self.new.pass).front) }
-        ensures full { IfErr result (AloneCaused (plain (sees self.old.pass).plan) (sees self.new.pass).front) }
+        ensures full { IfErr result (AloneCaused (setting_of (sees self.old.pass).plan) (sees self.new.pass).front) }
     {
         let look = self.look(table);
         if look.place >= PLACES_END {

@@ -5,7 +5,7 @@ use lt_locktree::Locktree;
 
 impl ManagerPass {
     ghost use Rattle.std.specs.Prelude.{◌≡◌, ◌≤◌, ◌-◌};
-    ghost use Rattle.lt_seq.specs.SeqPass.{plain};
+    ghost use Rattle.lt_rows.specs.Plan.{setting_of};
     ghost use Rattle.lt_seq.specs.Yard.{Shares, Learns};
     ghost use Rattle.lt_locktree.specs.Calls.{sees, IsOfTable, StaysOf};
     ghost use Rattle.lt_manager.specs.Views.{view_of, told_by, IsNoteOfTable};
@@ -17,11 +17,10 @@ impl ManagerPass {
         ensures of { IsOfTable table.now self.new.pass }
         ensures of_note { IsNoteOfTable table.now result }
         ensures pass { view_of self.new ≡ record (view_of self.old) { rights = (view_of self.old).rights - rights } }
-        ensures note { Shares (plain (sees self.old.pass).plan) (view_of self.old) rights (told_by result) }
+        ensures note { Shares (setting_of (sees self.old.pass).plan) (view_of self.old) rights (told_by result) }
     {
         ManagerNote {
             note: table.share(&mut self.pass, rights),
-            plan: *table.plan(),
         }
     }
 
@@ -30,7 +29,7 @@ impl ManagerPass {
         requires of { IsOfTable table.now self.old.pass }
         requires of_note { IsNoteOfTable table.now note }
         ensures of { IsOfTable table.now self.new.pass }
-        ensures learns { Learns (plain (sees self.old.pass).plan) (view_of self.old) (told_by note) (view_of self.new) }
+        ensures learns { Learns (setting_of (sees self.old.pass).plan) (view_of self.old) (told_by note) (view_of self.new) }
     {
         table.learn(&mut self.pass, note.note);
     }

@@ -1,13 +1,17 @@
 //! The shared table at work, through the trait, beside the plain one.
-ghost use Rattle.std.specs.Prelude.{◌≡◌, ◌≤◌, IfOk};
+ghost use Rattle.std.specs.Prelude.{◌≡◌, ◌≤◌, [], map, IfOk};
+ghost use Rattle.std.specs.List.{AllByRecursion};
+ghost use Rattle.lt_seq.specs.Passes.{opening_passes};
 ghost use Rattle.lt_seq.specs.Yard.{IsPlan, origin_of};
+ghost use Rattle.lt_rows.specs.Plan.{with_marks};
 ghost use Rattle.lt_manager.specs.Views.{view_of, IsPassOfTable};
 
 use crate::manager::Manager;
 use crate::manager_pass::ManagerPass;
 use lt_ranges::{Key, KeyRange};
 use lt_seq::{
-    Closed, Deed, Fault, Held, Look, Owners, Pass, Receipt, Reply, SeqYard, Yard, YardPlan,
+    Closed, Deed, Fault, Held, JoinNote, Look, Owners, Pass, Receipt, Reply, SeqYard, Yard,
+    YardPlan,
 };
 use std::alloc::{AllocError, Global};
 use std::process::Abort;
@@ -16,7 +20,7 @@ use std::thread::join;
 
 /// A call by a transaction, in tree 0. Keys are single bytes.
 #[derive(Clone, Copy)]
-enum Call {
+pub(crate) enum Call {
     /// An ask for one key.
     Ask(u64, u8),
     /// An ask for the keys from one to another.
@@ -30,7 +34,7 @@ enum Call {
 
 /// What a call answered.
 #[derive(Clone, Copy, Debug, Drop, PartialEq, Eq)]
-enum Kind {
+pub(crate) enum Kind {
     Granted,
     Buffered,
     HeldBy,
@@ -46,7 +50,7 @@ enum Kind {
 /// What a call answered, at which place, and a number: the only owner or 0, the pairs that went, those after a join, or
 /// the rows in use.
 #[derive(Clone, Copy, Debug, Drop, PartialEq, Eq)]
-struct Said(Kind, u64, u64);
+pub(crate) struct Said(pub(crate) Kind, pub(crate) u64, pub(crate) u64);
 
 fn only_of(owners: &Owners) -> u64 {
     match owners.as_slice() {
@@ -79,7 +83,7 @@ fn answer_of(answer: Result<Receipt, Fault>) -> Said {
     }
 }
 
-fn key(byte: u8) -> Key {
+pub(crate) fn key(byte: u8) -> Key {
     match Key::new(&[byte]) {
         Ok(key) => key,
         Err(_) => Key::Below,
@@ -93,7 +97,7 @@ pub(crate) fn point(byte: u8) -> KeyRange {
     }
 }
 
-fn span(left: u8, right: u8) -> KeyRange {
+pub(crate) fn span(left: u8, right: u8) -> KeyRange {
     match KeyRange::new(key(left), key(right)) {
         Ok(range) => range,
         Err(_) => KeyRange::whole(),
@@ -120,23 +124,29 @@ fn make<Y: Yard>(yard: &Y, pass: &mut Y::Pass, call: &Call) -> Result<Receipt, F
     }
 }
 
-/// What the calls of a lone pass answered, how many notes it left, its events, and what its table left.
+/// What the calls of a lone pass answered, the notes it left, its events, and what its table left.
 #[derive(Drop)]
-struct Played {
-    look: Look,
-    answers: Vec<Said>,
-    notes: usize,
-    events: Vec<Said>,
-    closed: Closed,
+pub(crate) struct Played {
+    pub(crate) look: Look,
+    pub(crate) answers: Vec<Said>,
+    pub(crate) notes: Vec<JoinNote>,
+    pub(crate) events: Vec<Said>,
+    pub(crate) closed: Closed,
 }
 
 /// Makes the calls, one after another, in a fresh table of one pass.
-fn play<Y: Yard>(alloc: Global, plan: &YardPlan, calls: &[Call]) -> Result<Played, AllocError>
-    requires plan { IsPlan plan.now }
-    requires one { plan.now.passes ≡ 1 }
-    requires served { 1 ≤ Y.MOST_PASSES }
+pub(crate) fn play_in<Y: Yard>(
+    alloc: Global,
+    yard: Y,
+    passes: Vec<Y::Pass>,
+    calls: &[Call],
+) -> Result<Played, AllocError>
+    requires trees { 1 ≤ (Y.setting yard).plan.trees }
+    requires one { (Y.setting yard).plan.passes ≡ 1 }
+    requires of { AllByRecursion (λ p. Y.Pass.origin p ≡ origin_of (Y.identity yard) (Y.setting yard)) passes.items }
+    requires passes { map Y.Pass.view passes.items ≡ opening_passes 1 }
 {
-    let (yard, mut passes) = Y::build(alloc, plan)?;
+    let mut passes = passes;
     let Some(mut pass) = passes.pop() else {
         unreachable!();
     };
@@ -145,7 +155,7 @@ fn play<Y: Yard>(alloc: Global, plan: &YardPlan, calls: &[Call]) -> Result<Playe
         answers.push(answer_of(make(&yard, &mut pass, call)))?;
     }
     let look = yard.look(&mut pass);
-    let notes = yard.take_notes(&mut pass).len();
+    let notes = yard.take_notes(&mut pass);
     passes.push(pass)?;
     let closed = yard.close(alloc, passes)?;
     let mut events = Vec::new(alloc);
@@ -163,6 +173,31 @@ fn play<Y: Yard>(alloc: Global, plan: &YardPlan, calls: &[Call]) -> Result<Playe
     })
 }
 
+/// Makes the calls in a fresh table of one pass without marks.
+pub(crate) fn play<Y: Yard>(
+    alloc: Global,
+    plan: &YardPlan,
+    calls: &[Call],
+) -> Result<Played, AllocError>
+    requires plan { IsPlan plan.now }
+    requires one { plan.now.passes ≡ 1 }
+    requires served { 1 ≤ Y.MOST_PASSES }
+{
+    let (yard, passes) = Y::build(alloc, plan)?;
+    play_in::<Y>(alloc, yard, passes, calls)
+}
+
+/// Whether two tables answered and left the same.
+pub(crate) fn assert_same(rt: &impl Abort, played: &Played, plain: &Played) {
+    assert_eq!(rt; played.look, plain.look);
+    assert_eq!(rt; played.answers.as_slice(), plain.answers.as_slice());
+    assert_eq!(rt; played.notes.len(), plain.notes.len());
+    assert_eq!(rt; played.events.as_slice(), plain.events.as_slice());
+    assert_eq!(rt; played.closed.places, plain.closed.places);
+    assert_eq!(rt; played.closed.used, plain.closed.used);
+    assert_eq!(rt; played.closed.left.as_slice(), plain.closed.left.as_slice());
+}
+
 /// Plays the calls in the shared table, and in the plain one, which answers and leaves the same.
 fn play_both(
     rt: &impl Abort,
@@ -175,17 +210,11 @@ fn play_both(
 {
     let played = play::<Manager>(alloc, plan, calls)?;
     let plain = play::<SeqYard>(alloc, plan, calls)?;
-    assert_eq!(rt; played.look, plain.look);
-    assert_eq!(rt; played.answers.as_slice(), plain.answers.as_slice());
-    assert_eq!(rt; played.notes, plain.notes);
-    assert_eq!(rt; played.events.as_slice(), plain.events.as_slice());
-    assert_eq!(rt; played.closed.places, plain.closed.places);
-    assert_eq!(rt; played.closed.used, plain.closed.used);
-    assert_eq!(rt; played.closed.left.as_slice(), plain.closed.left.as_slice());
+    assert_same(rt, &played, &plain);
     Ok(played)
 }
 
-fn plan(limit: u64, buffer: u64, passes: u32) -> YardPlan
+pub(crate) fn plan(limit: u64, buffer: u64, passes: u32) -> YardPlan
     requires limit { (1 ≤ limit) × (limit ≤ 65536) }
     requires buffer { buffer ≤ 65536 }
     requires passes { (1 ≤ passes) × (passes ≤ 17) }
@@ -247,7 +276,7 @@ fn a_question_of_another_ends_a_buffer_of_three(rt: HostRuntime) -> Result<(), F
         .as_slice()
     );
     assert_eq!(rt; played.look, Look { place: 6, used: 1 });
-    assert_eq!(rt; played.notes, 1);
+    assert_eq!(rt; played.notes.len(), 1);
     Ok(())
 }
 
@@ -289,7 +318,7 @@ fn an_ask_that_is_out_of_locks_leaves_the_note_of_its_join(rt: HostRuntime) -> R
         played.events.as_slice(),
         [Said(Kind::Granted, 0, 0), Said(Kind::Joined, 1, 1)].as_slice()
     );
-    assert_eq!(rt; played.notes, 1);
+    assert_eq!(rt; played.notes.len(), 1);
     Ok(())
 }
 
@@ -329,7 +358,7 @@ fn a_table_without_a_place_answers_that_its_history_is_full(rt: HostRuntime) -> 
             used: 0
         }
     );
-    assert_eq!(rt; (played.notes, played.closed.places), (0, 0));
+    assert_eq!(rt; (played.notes.len(), played.closed.places), (0, 0));
     Ok(())
 }
 
@@ -370,7 +399,7 @@ pub(crate) fn both(
 ) -> Result<(Manager, ManagerPass, ManagerPass), AllocError>
     requires plan { IsPlan plan.now × (plan.now.passes ≡ 2) }
     ensures of { IfOk result (λ r. IsPassOfTable r.0.tree r.1 × IsPassOfTable r.0.tree r.2) }
-    ensures plan { IfOk result (λ r. r.0.tree.rows.plan ≡ plan.now) }
+    ensures plan { IfOk result (λ r. r.0.tree.rows.plan ≡ with_marks plan.now []) }
     ensures numbers { IfOk result (λ r. ((view_of r.1).number ≡ 0) × ((view_of r.2).number ≡ 1)) }
     ensures rights { IfOk result (λ r. ((view_of r.1).rights ≡ 1) × ((view_of r.2).rights ≡ 1)) }
 {

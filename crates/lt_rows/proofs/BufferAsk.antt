@@ -2,7 +2,7 @@
 use Rattle.std.proofs.Common.{◌≡◌, inl, inr, ℕ, ◌+◌, ◌<◌, List, [], ◌∷◌, length, refl, sym, ap, ◌∙◌, subst, arith, true, ne_eqb}
 use Rattle.std.specs.Prelude.{pos, slice_index}
 use Rattle.lt_ranges.specs.Interval.{whole}
-use Rattle.lt_seq.specs.declared.plan.YardPlan.{YardPlan}
+use Rattle.lt_rows.specs.declared.row_plan.RowPlan.{RowPlan}
 use Rattle.lt_seq.specs.declared.event.Mode.TheVariants.{Tree as TreeMode, Buffer}
 use Rattle.lt_seq.specs.declared.event.Deed.{Deed}
 use Rattle.lt_seq.specs.Table.{tree_of}
@@ -20,7 +20,7 @@ unfolding mode_of
 mode_buffer ws txn count more owner rows =
     ap (λ b. mode_by b (TreeMode (slice_index ws 19)) (Buffer (slice_index ws 0) (slice_index ws 20))) (ne_eqb (slice_index ws 0) 0 (λ e. omega arith)) ∙ (λ j. Buffer (owner j) (rows j))
 
-module _ (k : YardPlan) (v : View) (tree txn count : ℕ) (three : Three) (a p x : RowImage) (more : 0 < txn) (lt : tree < k.trees) (h : HasThree k v tree three) (first : IsFirst three)
+module _ (k : RowPlan) (v : View) (tree txn count : ℕ) (three : Three) (a p x : RowImage) (more : 0 < txn) (lt : tree < k.trees) (h : HasThree k v tree three) (first : IsFirst three)
     (pool_long : length three.pool.words ≡ 21) (plan : IsBufferPlan three txn count a p x) where
   abbrev images_of : List RowImage
   images_of = a ∷ p ∷ x ∷ []

@@ -2,12 +2,13 @@
 use Rattle.std.proofs.Common.{◌≡◌, ℕ, zero, suc, ◌≤◌, List, [], ◌∷◌, map, replicate, refl, sym, ap, ◌∙◌, subst, arith, Some, None}
 use Rattle.std.specs.Prelude.{Option, slice_index_or}
 use Rattle.std.proofs.lemmas.List.Elements.{All-head}
-use Rattle.lt_seq.specs.declared.plan.YardPlan.{YardPlan}
+use Rattle.lt_rows.specs.declared.row_plan.RowPlan.{RowPlan}
 use Rattle.lt_seq.specs.Yard.{IsPlan}
 use Rattle.lt_seq.specs.Passes.{numbers_from}
 use Rattle.lt_rows.specs.declared.view.Row.{Row}
 use Rattle.lt_rows.specs.declared.table.RowTable.{RowTable}
 use Rattle.lt_rows.specs.declared.pass.RowPass.{RowPass}
+use Rattle.lt_rows.specs.Plan.{sizes_of}
 use Rattle.lt_rows.specs.Views.{row_at, rows_of}
 use Rattle.lt_rows.specs.Handles.{knows, IsPassOf}
 use Rattle.lt_rows.specs.Openings.{IsNew, AreItsPasses, rights_at}
@@ -43,11 +44,11 @@ none_in (suc n) zero = refl
 none_in (suc n) (suc r) = none_in n r
 
 -- the passes of a new table
-pub new_passes : (t : RowTable) (k : YardPlan) (passes : List RowPass) → IsPlan k → t.plan ≡ k → AreItsPasses t passes → FirstHasAll t passes
-new_passes t k [] plan is new =
+pub new_passes : (t : RowTable) (k : RowPlan) (passes : List RowPass) → t.plan ≡ k → IsPlan (sizes_of k) → AreItsPasses t passes → FirstHasAll t passes
+new_passes t k [] is plan new =
     let h = plan.passes in
-    no_passes t.plan.passes (subst (λ (y : YardPlan). 1 ≤ y.passes) (sym is) h) new.numbers
-new_passes t k (p ∷ passes) plan is new =
+    no_passes t.plan.passes (subst (λ (y : RowPlan). 1 ≤ y.passes) (sym is) h) new.numbers
+new_passes t k (p ∷ passes) is plan new =
     let one : IsNew t.table.shared.table_id t.plan p = All-head (IsNew t.table.shared.table_id t.plan) p passes new.each in
     let number = first_number t.plan.passes p passes new.numbers in
     record {

@@ -2,7 +2,7 @@
 use Rattle.std.proofs.Common.{◌≡◌, ◌≢◌, ℕ, zero, suc, ◌+◌, ◌<◌, List, [], ◌∷◌, ◌++◌, length, take, refl, sym, ap, ◌∙◌, subst, arith, append_assoc, eq-eqb, ne_eqb, Ok, Err}
 use Rattle.std.specs.Prelude.{Result, OnOk, slice_index}
 use Rattle.std.proofs.lemmas.List.{append-nil}
-use Rattle.lt_seq.specs.declared.plan.YardPlan.{YardPlan}
+use Rattle.lt_rows.specs.declared.row_plan.RowPlan.{RowPlan}
 use Rattle.lt_seq.specs.declared.event.Mode.TheVariants.{Tree as TreeMode, Buffer}
 use Rattle.lt_seq.specs.declared.event.Held.{Held}
 use Rattle.lt_seq.specs.Table.{held_in}
@@ -16,7 +16,7 @@ use Rattle.lt_forest.proofs.ForestLaws.{TreeAt, ChainAt, as_tree, as_chain}
 use Rattle.lt_forest.proofs.FurtherRows.{in_tree_further}
 use Rattle.atomic_table.specs.Table.{Final, Seen}
 use Rattle.lt_seq.specs.History.{after}
-use Rattle.lt_seq.specs.SeqPass.{plain}
+use Rattle.lt_rows.specs.Plan.{setting_of}
 use Rattle.lt_rows.specs.declared.view.Row.{Row}
 use Rattle.lt_rows.specs.declared.view.View.{View}
 use Rattle.lt_rows.specs.declared.last_words.LastWords.{LastWords}
@@ -51,7 +51,7 @@ all_below n [] h = tt
 all_below n (x ∷ xs) h =
     (h x (let same = ap one_if (eq-eqb x x refl) in omega arith), all_below n xs (λ q some. h q (omega arith)))
 
-module _ (plan : YardPlan) (last : LastWords) (state : List TreeState) (end : IsLastForest plan last state) (t : ℕ) (lt : t < plan.trees) where
+module _ (plan : RowPlan) (last : LastWords) (state : List TreeState) (end : IsLastForest plan last state) (t : ℕ) (lt : t < plan.trees) where
   anchor : List ℕ
   anchor = row_words (words_in last) t
 
@@ -112,13 +112,13 @@ one_more_tree state t left more lt is adds =
     ∙ ap (λ m. held_from 0 (take m state)) (let e : suc t ≡ t + 1 = omega arith in e)))
 
 -- where a pass had all the rights and no row, the last words are a forest of the table after what it has seen
-pub last_forest : (k plan : YardPlan) (last : LastWords) (words : List ℕ) (homes : List (Unit {0})) (id n : ℕ) (v : View) → k ≡ plan → words_in last ≡ words
+pub last_forest : (k plan : RowPlan) (last : LastWords) (words : List ℕ) (homes : List (Unit {0})) (id n : ℕ) (v : View) → k ≡ plan → words_in last ≡ words
     → last.rows ≡ rows_of plan → v.rights ≡ n → n ≡ plan.passes → ((r : ℕ) (row : Row) → Holds v r row → ⊥)
-    → Final (Seen (Rows (woods k) k) id v) words homes → IsLastForest plan last (after (plain plan) v.front)
+    → Final (Seen (Rows (woods k) k) id v) words homes → IsLastForest plan last (after (setting_of plan) v.front)
 last_forest k plan last words homes id n v is words_are rows rights all none final =
-    let ends = left_stands k words homes id v (rights ∙ (all ∙ ap (λ (y : YardPlan). y.passes) (sym is))) none final in
-    subst (λ (y : YardPlan). IsLastForest y last (after (plain y) v.front)) is (record {
+    let ends = left_stands k words homes id v (rights ∙ (all ∙ ap (λ (y : RowPlan). y.passes) (sym is))) none final in
+    subst (λ (y : RowPlan). IsLastForest y last (after (setting_of y) v.front)) is (record {
       rows_are = rows ∙ ap rows_of (sym is);
       forest = ends.0;
-      stands = subst (λ (ws : List ℕ). IsForest k.trees (rows_of k) (nodes (row_words ws)) (modes (row_words ws)) (after (plain k) v.front) ends.0) (sym words_are) ends.1;
+      stands = subst (λ (ws : List ℕ). IsForest k.trees (rows_of k) (nodes (row_words ws)) (modes (row_words ws)) (after (setting_of k) v.front) ends.0) (sym words_are) ends.1;
     })

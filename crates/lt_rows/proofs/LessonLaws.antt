@@ -1,7 +1,7 @@
 -- What a pass reads off its own rows.
 use Rattle.std.proofs.Common.{◌++◌, refl, subst}
 use Rattle.lt_ranges.specs.Interval.{IsInterval}
-use Rattle.lt_seq.specs.SeqPass.{plain}
+use Rattle.lt_rows.specs.Plan.{setting_of}
 use Rattle.lt_seq.proofs.LawfulLaws.{sound_history}
 use Rattle.lt_forest.proofs.PairLists.{lawful_has}
 use Rattle.lt_rows.specs.Nodes.{node_of}
@@ -53,7 +53,7 @@ gapped_row_shows_range v log r row g st held is =
     let p = st.gaps r row g held is in
     let f = st.shape.forest in
     subst (λ ws. IsInterval (node_of ws).range) (st.agrees r row held)
-    (lawful_has _ _ (sound_history (plain v.plan) log st.shape.legal g.tree).lawful (placed_pair _ _ _ _ _ r (g.low, g.high) (f.grown g.tree p.tree) p.gap))
+    (lawful_has _ _ (sound_history (setting_of v.plan) log st.shape.legal g.tree).lawful (placed_pair _ _ _ _ _ r (g.low, g.high) (f.grown g.tree p.tree) p.gap))
 
 pub part_shows_pairs_of_tree : PartShowsPairsOfTree
 part_shows_pairs_of_tree v log t top score cut p st lt knows part h = part_shows v log st t top score cut lt knows part p h

@@ -4,7 +4,7 @@ use Rattle.std.specs.Prelude.{negsuc, slice_index, nat_eq, not}
 use mathlib.Core.Logic.{dite}
 use native.Mathlib.Decide.{ℕ_discrete}
 use Rattle.lt_ranges.specs.Interval.{Interval, whole}
-use Rattle.lt_seq.specs.declared.plan.YardPlan.{YardPlan}
+use Rattle.lt_rows.specs.declared.row_plan.RowPlan.{RowPlan}
 use Rattle.lt_seq.specs.declared.event.Pair.{Pair}
 use Rattle.lt_seq.specs.declared.event.Mode.{Mode}
 use Rattle.lt_seq.specs.declared.event.Mode.TheVariants.{Tree as TreeMode}
@@ -12,7 +12,7 @@ use Rattle.lt_seq.specs.declared.event.Deed.{Deed}
 use Rattle.lt_seq.specs.declared.event.Deed.TheVariants.{Free}
 use Rattle.lt_seq.specs.Pairs.{freed, count_freed}
 use Rattle.lt_seq.specs.Table.{TreeState, tree_of}
-use Rattle.lt_seq.specs.SeqPass.{plain}
+use Rattle.lt_rows.specs.Plan.{setting_of}
 use Rattle.lt_forest.specs.Counts.{one_if, times}
 use Rattle.lt_forest.specs.Trees.{Node, pair_of}
 use Rattle.lt_forest.specs.Cuts.{end, held}
@@ -36,7 +36,7 @@ none_left txn r = ap (λ b. cond (not b) (record { owner = txn; range = r } ∷ 
 one_freed : (txn : ℕ) (r : Interval) → count_freed txn whole (record { owner = txn; range = r } ∷ []) ≡ 1
 one_freed txn r = ap (λ b. length {A = Pair} (cond b (record { owner = txn; range = r } ∷ []) [])) (own_is txn r)
 
-module _ (k : YardPlan) (v : View) (tree txn : ℕ) (three : Three) (a p x : RowImage) (lt : tree < k.trees) (h : HasThree k v tree three) (top : IsTop three) (only : IsOnly txn three)
+module _ (k : RowPlan) (v : View) (tree txn : ℕ) (three : Three) (a p x : RowImage) (lt : tree < k.trees) (h : HasThree k v tree three) (top : IsTop three) (only : IsOnly txn three)
     (long : length three.anchor.words ≡ 21) (pool_long : length three.pool.words ≡ 21) (row_long : length three.row.words ≡ 21) (plan : IsFreePlan three a p x) where
   abbrev q : ℕ
   q = three.row.row
@@ -76,7 +76,7 @@ module _ (k : YardPlan) (v : View) (tree txn : ℕ) (three : Three) (a p x : Row
   old_pair : pair_of (shown v images_of) q ≡ record { owner = txn; range = range }
   old_pair = ap (λ (n : Node). record { owner = n.owner; range = n.range }) row_before ∙ ap (λ (o : ℕ). record { owner = o; range = range }) (is_owner three.row.words ∙ only.owner)
 
-  shows_tree : ShowsDeed (plain k) txn (free_whole tree) (shown v images_of) (shown_after v images_of) (held (end 0) q (end 0)) (end 0) (TreeMode score) (TreeMode score)
+  shows_tree : ShowsDeed (setting_of k) txn (free_whole tree) (shown v images_of) (shown_after v images_of) (held (end 0) q (end 0)) (end 0) (TreeMode score) (TreeMode score)
   shows_tree =
       let state_is : record { pairs = pair_of (shown v images_of) q ∷ []; mode = TreeMode score } ≡ record { pairs = record { owner = txn; range = range } ∷ []; mode = TreeMode score } = ap (λ (y : Pair). record { pairs = y ∷ []; mode = TreeMode score }) old_pair in
       record {
@@ -124,7 +124,7 @@ module _ (k : YardPlan) (v : View) (tree txn : ℕ) (three : Three) (a p x : Row
       others = (these k v tree three a p x lt h plan.anchor_row plan.pool_row plan.vacant_row).only;
     };
     closed = record { in_gap = tt; aside = tt };
-    shows = subst (λ (m : Mode × Mode). ShowsDeed (plain k) txn (free_whole tree) (shown v images_of) (shown_after v images_of) (held (end 0) q (end 0)) (end 0) m.0 m.1) (λ j. (sym mode_was j, sym mode_now j)) shows_tree;
+    shows = subst (λ (m : Mode × Mode). ShowsDeed (setting_of k) txn (free_whole tree) (shown v images_of) (shown_after v images_of) (held (end 0) q (end 0)) (end 0) m.0 m.1) (λ j. (sym mode_was j, sym mode_now j)) shows_tree;
     question = whole_is;
   }
 

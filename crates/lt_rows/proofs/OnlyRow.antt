@@ -8,7 +8,7 @@ use Rattle.lt_ranges.specs.declared.key.Key.TheVariants.{Below, Bytes, After, Ab
 use Rattle.lt_ranges.specs.Key.{key_le, key_min, key_max}
 use Rattle.lt_ranges.specs.Numbers.{ascending}
 use Rattle.lt_ranges.specs.Interval.{Interval, whole, overlap, hull}
-use Rattle.lt_seq.specs.declared.plan.YardPlan.{YardPlan}
+use Rattle.lt_rows.specs.declared.row_plan.RowPlan.{RowPlan}
 use Rattle.lt_seq.specs.declared.event.Event.{Event}
 use Rattle.lt_seq.specs.declared.event.Pair.{Pair}
 use Rattle.lt_seq.specs.declared.event.Mode.TheVariants.{Tree as TreeMode}
@@ -17,7 +17,7 @@ use Rattle.lt_seq.specs.declared.event.Deed.TheVariants.{Ask}
 use Rattle.lt_seq.specs.declared.event.Reply.TheVariants.{Buffered}
 use Rattle.lt_seq.specs.Pairs.{granted, others, is_own, span}
 use Rattle.lt_seq.specs.Table.{TreeState, is_buffered, buffered_mode, ended, pairs_by, reply_by, tree_after, tree_of, replied}
-use Rattle.lt_seq.specs.SeqPass.{plain}
+use Rattle.lt_rows.specs.Plan.{setting_of}
 use Rattle.lt_forest.specs.Counts.{one_if, times}
 use Rattle.lt_forest.specs.Trees.{Node, pair_of}
 use Rattle.lt_forest.specs.Cuts.{Cut, end, held}
@@ -113,18 +113,18 @@ module _ (txn : ℕ) (r : Interval) where
       never true = refl
       never false = refl
 
-  asked : (k : YardPlan) (tree score : ℕ) → tree_after (plain k) txn (ask_whole tree) (record { pairs = own ∷ []; mode = TreeMode score }) ≡ record { pairs = record { owner = txn; range = whole } ∷ []; mode = TreeMode score }
+  asked : (k : RowPlan) (tree score : ℕ) → tree_after (setting_of k) txn (ask_whole tree) (record { pairs = own ∷ []; mode = TreeMode score }) ≡ record { pairs = record { owner = txn; range = whole } ∷ []; mode = TreeMode score }
   asked k tree score =
       ap (λ b. if b then record { pairs = granted txn whole (own ∷ []); mode = buffered_mode txn (TreeMode score) } else record { pairs = pairs_by (others txn whole (own ∷ [])) txn whole (own ∷ []); mode = ended (TreeMode score) }) (not_buffered k.buffer score)
       ∙ (ap (λ os. record { pairs = pairs_by os txn whole (own ∷ []); mode = TreeMode score }) no_others ∙ ap (λ ps. record { pairs = ps; mode = TreeMode score }) grants)
 
-  answered : (k : YardPlan) (tree score : ℕ) → replied (plain k) txn (ask_whole tree) (record { pairs = own ∷ []; mode = TreeMode score }) ≡ ask_whole tree
+  answered : (k : RowPlan) (tree score : ℕ) → replied (setting_of k) txn (ask_whole tree) (record { pairs = own ∷ []; mode = TreeMode score }) ≡ ask_whole tree
   answered k tree score =
       ap (λ b. Ask tree whole (if b then Buffered else reply_by (others txn whole (own ∷ [])))) (not_buffered k.buffer score) ∙ ap (λ os. Ask tree whole (reply_by os)) no_others
 
 -- the row, and a plan for it alone
 
-module _ (k : YardPlan) (v : View) (tree : ℕ) (image p : RowImage) (lt : tree < k.trees) (h : HasOnly k v tree image) (row_is : p.row ≡ image.row)
+module _ (k : RowPlan) (v : View) (tree : ℕ) (image p : RowImage) (lt : tree < k.trees) (h : HasOnly k v tree image) (row_is : p.row ≡ image.row)
     (left : (node_of p.words).left ≡ 0) (right : (node_of p.words).right ≡ 0) where
   abbrev q : ℕ
   q = image.row
@@ -183,16 +183,16 @@ module _ (k : YardPlan) (v : View) (tree : ℕ) (image p : RowImage) (lt : tree 
     old_pair : pair_of (shown v plan) q ≡ record { owner = txn; range = range }
     old_pair = ap (λ (n : Node). record { owner = n.owner; range = n.range }) before ∙ ap (λ (o : ℕ). record { owner = o; range = range }) (is_owner image.words ∙ owner)
 
-    shows : (s : ℕ) → ShowsDeed (plain k) txn (ask_whole tree) (shown v plan) (shown_after v plan) cut cut (TreeMode s) (TreeMode s)
+    shows : (s : ℕ) → ShowsDeed (setting_of k) txn (ask_whole tree) (shown v plan) (shown_after v plan) cut cut (TreeMode s) (TreeMode s)
     shows s =
         let state_is : record { pairs = pair_of (shown v plan) q ∷ []; mode = TreeMode s } ≡ record { pairs = record { owner = txn; range = range } ∷ []; mode = TreeMode s } = ap (λ (x : Pair). record { pairs = x ∷ []; mode = TreeMode s }) old_pair in
-        let made = ap (tree_after (plain k) txn (ask_whole tree)) state_is ∙ asked txn range k tree s in
+        let made = ap (tree_after (setting_of k) txn (ask_whole tree)) state_is ∙ asked txn range k tree s in
         record {
           was_tree = tt;
           is_tree = tt;
           pairs = ap (λ (n : Node). record { owner = n.owner; range = n.range } ∷ []) (after ∙ node) ∙ sym (ap (λ (t : TreeState). t.pairs) made);
           mode = sym (ap (λ (t : TreeState). t.mode) made);
-          replies = ap (replied (plain k) txn (ask_whole tree)) state_is ∙ answered txn range k tree s;
+          replies = ap (replied (setting_of k) txn (ask_whole tree)) state_is ∙ answered txn range k tree s;
           question = whole_is;
         }
 
@@ -287,7 +287,7 @@ pub right_of_words : (ws us : List ℕ) → node_of ws ≡ node_of us → slice_
 right_of_words ws us same none = ap (λ (n : Node). n.right) same ∙ (is_right us ∙ none)
 
 -- the same in a view with the same rows
-pub only_on : (k : YardPlan) (v w : View) (tree : ℕ) (image : RowImage) → w.held ≡ v.held → HasOnly k v tree image → HasOnly k w tree image
+pub only_on : (k : RowPlan) (v w : View) (tree : ℕ) (image : RowImage) → w.held ≡ v.held → HasOnly k v tree image → HasOnly k w tree image
 only_on k v w tree image e h = record {
   row = h.row;
   score = h.score;
@@ -302,12 +302,12 @@ only_on k v w tree image e h = record {
 }
 
 -- a tree's top row, taken below its anchor, of which the anchor is given back
-pub goes_down : (k : YardPlan) (v w u : View) (tree q : ℕ) (words : List ℕ) (anchor image : RowImage) → tree < k.trees → k.trees < q → v.plan ≡ k → Teaches v → Kept v tree words → ((r : ℕ) → r ≢ tree → row_at v r ≡ None)
+pub goes_down : (k : RowPlan) (v w u : View) (tree q : ℕ) (words : List ℕ) (anchor image : RowImage) → tree < k.trees → k.trees < q → v.plan ≡ k → Teaches v → Kept v tree words → ((r : ℕ) → r ≢ tree → row_at v r ≡ None)
     → anchor.words ≡ words_of (row_at v tree) → slice_index anchor.words 0 ≡ 0 → slice_index anchor.words 17 ≡ q + 1
     → (t : Tries q v w Taken) → u ≡ with_row w tree None → image.row ≡ q → image.words ≡ words_of (row_at u q) → slice_index image.words 17 ≡ 0 → slice_index image.words 18 ≡ 0 → HasOnly k u tree image
 goes_down k v w u tree q words anchor image lt more plan_is teaches kept none loaded is_tree link t put row_is read none_left none_right =
     let same : anchor.words ≡ words = loaded ∙ kept_words v tree words kept in
-    let less : tree < v.plan.trees = subst (λ (y : YardPlan). tree < y.trees) (sym plan_is) lt in
+    let less : tree < v.plan.trees = subst (λ (y : RowPlan). tree < y.trees) (sym plan_is) lt in
     let mode : mode_of kept.0.image ≡ TreeMode (slice_index words 19) = ap mode_of kept.3 ∙ mode_tree words (ap (λ (ws : List ℕ). slice_index ws 0) (sym same) ∙ is_tree) in
     let leads : (node_of kept.0.image).left ≡ q + 1 = ap (λ (ws : List ℕ). (node_of ws).left) kept.3 ∙ (is_left words ∙ (ap (λ (ws : List ℕ). slice_index ws 17) (sym same) ∙ link)) in
     let gap = gap_at_top v teaches.0 teaches.2 q tree (slice_index words 19) kept.0 less kept.1 mode leads in

@@ -6,9 +6,9 @@ use native.Mathlib.Decide.{ℕ_discrete}
 use Rattle.lt_seq.specs.declared.event.Pair.{Pair}
 use Rattle.lt_seq.specs.declared.event.Mode.{Mode}
 use Rattle.lt_seq.specs.declared.event.Mode.TheVariants.{Tree as TreeMode, Buffer}
-use Rattle.lt_seq.specs.declared.plan.YardPlan.{YardPlan}
+use Rattle.lt_rows.specs.declared.row_plan.RowPlan.{RowPlan}
 use Rattle.lt_seq.specs.History.{after}
-use Rattle.lt_seq.specs.SeqPass.{plain}
+use Rattle.lt_rows.specs.Plan.{setting_of}
 use Rattle.lt_seq.specs.Table.{tree_at}
 use Rattle.lt_forest.specs.Bounds.{Gap}
 use Rattle.lt_forest.specs.Counts.{one_if, times}
@@ -66,8 +66,8 @@ gapped_row_is_of_its_tree k s i v r row g rule at h is =
 
 pub closed_part_has_all_rows : ClosedPartHasAllRows
 closed_part_has_all_rows k s i v t top score cut range p rule at plan_is lt knows part closed h over =
-    part_has_all v rule.log (stood_at woods k s rule i v at plan_is) t top score cut (subst (λ (y : YardPlan). t < y.trees) (sym plan_is) lt) knows part range closed p
-    (subst (λ (y : YardPlan). Has p (tree_at (after (plain y) rule.log) t).pairs) (sym plan_is) h) over
+    part_has_all v rule.log (stood_at woods k s rule i v at plan_is) t top score cut (subst (λ (y : RowPlan). t < y.trees) (sym plan_is) lt) knows part range closed p
+    (subst (λ (y : RowPlan). Has p (tree_at (after (setting_of y) rule.log) t).pairs) (sym plan_is) h) over
 
 pub limit_is_kept : LimitIsKept
 limit_is_kept k s rule = rule.told.licence

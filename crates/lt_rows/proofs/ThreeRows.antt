@@ -4,7 +4,7 @@ use Rattle.std.specs.Prelude.{Option, None, slice_index, slice_set, nat_eq}
 use mathlib.Core.Logic.{dite}
 use native.Mathlib.Decide.{ℕ_discrete}
 use Rattle.lt_ranges.specs.Interval.{whole}
-use Rattle.lt_seq.specs.declared.plan.YardPlan.{YardPlan}
+use Rattle.lt_rows.specs.declared.row_plan.RowPlan.{RowPlan}
 use Rattle.lt_seq.specs.declared.event.Event.{Event}
 use Rattle.lt_forest.specs.Counts.{one_if, times}
 use Rattle.lt_forest.specs.Trees.{Node}
@@ -34,7 +34,7 @@ is_left ws = refl
 pub row_on : (v w : View) (i : RowImage) → w.held ≡ v.held → HasRow v i → HasRow w i
 row_on v w i e r = record { row = r.row; held = ap (λ (l : List (Option Row)). get_or l i.row None) e ∙ r.held; words = r.words; image_is = r.image_is }
 
-pub three_on : (k : YardPlan) (v w : View) (tree : ℕ) (three : Three) → w.held ≡ v.held → HasThree k v tree three → HasThree k w tree three
+pub three_on : (k : RowPlan) (v w : View) (tree : ℕ) (three : Three) → w.held ≡ v.held → HasThree k v tree three → HasThree k w tree three
 three_on k v w tree three e h = record {
   anchor = row_on v w three.anchor e h.anchor;
   pool = row_on v w three.pool e h.pool;
@@ -47,7 +47,7 @@ three_on k v w tree three e h = record {
 }
 
 -- a commit from a view that had seen what another had, and what it leaves once all rows are given back
-pub then_ended : (k : YardPlan) (v u w z : View) (rest : List Event) (e : Event) (place : ℕ) → u.front ≡ v.front ++ rest → IsCommitOf k u w e place → z.front ≡ w.front → IsCommitOf k v z e place
+pub then_ended : (k : RowPlan) (v u w z : View) (rest : List Event) (e : Event) (place : ℕ) → u.front ≡ v.front ++ rest → IsCommitOf k u w e place → z.front ≡ w.front → IsCommitOf k v z e place
 then_ended k v u w z rest e place looked made same = record {
   log = made.log;
   seen = (rest ++ made.seen.0, made.seen.1 ∙ (ap (λ (l : List Event). l ++ made.seen.0) looked ∙ append_assoc v.front rest made.seen.0));
@@ -55,7 +55,7 @@ then_ended k v u w z rest e place looked made same = record {
   place_is = made.place_is;
 }
 
-module _ (k : YardPlan) (v : View) (tree : ℕ) (three : Three) (a p x : RowImage) (lt : tree < k.trees) (h : HasThree k v tree three)
+module _ (k : RowPlan) (v : View) (tree : ℕ) (three : Three) (a p x : RowImage) (lt : tree < k.trees) (h : HasThree k v tree three)
     (row_a : a.row ≡ three.anchor.row) (row_p : p.row ≡ three.pool.row) (row_x : x.row ≡ three.row.row) where
   abbrev pub q : ℕ
   q = three.row.row

@@ -1,9 +1,9 @@
 -- The end of a table.
 use Rattle.std.specs.Prelude.{◌≡◌, ℕ, List, [], ◌∷◌, length}
-use Rattle.lt_seq.specs.declared.plan.YardPlan.{YardPlan}
+use Rattle.lt_rows.specs.declared.row_plan.RowPlan.{RowPlan}
 use Rattle.lt_seq.specs.declared.event.Event.{Event}
 use Rattle.lt_seq.specs.History.{after}
-use Rattle.lt_seq.specs.SeqPass.{plain}
+use Rattle.lt_rows.specs.Plan.{setting_of}
 use Rattle.lt_seq.specs.Passes.{held_from}
 use Rattle.lt_rows.specs.declared.view.Row.{Row}
 use Rattle.lt_rows.specs.declared.table.RowTable.{RowTable}
@@ -27,7 +27,7 @@ front_of_first [] = []
 front_of_first (p ∷ passes) = (knows p).front
 
 -- what is answered where a table is closed after these events
-pub record IsLeft (plan : YardPlan) (events : List Event) (rest : RowsLeft) : Type 0 where
+pub record IsLeft (plan : RowPlan) (events : List Event) (rest : RowsLeft) : Type 0 where
   pub places : rest.places ≡ length events
   pub used : rest.used ≡ used_after plan events
-  pub left : rest.left.items ≡ held_from 0 (after (plain plan) events)
+  pub left : rest.left.items ≡ held_from 0 (after (setting_of plan) events)

@@ -1,7 +1,7 @@
 -- The words that a table ends with, and what is left in them.
 use Rattle.std.specs.Prelude.{◌≡◌, ℕ, ◌<◌, ◌≤◌, List, [], ◌∷◌, length}
 use Rattle.std.specs.Mem.Slots.{slots_items}
-use Rattle.lt_seq.specs.declared.plan.YardPlan.{YardPlan}
+use Rattle.lt_rows.specs.declared.row_plan.RowPlan.{RowPlan}
 use Rattle.lt_seq.specs.Table.{TreeState}
 use Rattle.lt_forest.specs.Trees.{Tree, Nodes, LeadsTo, in_order}
 use Rattle.lt_forest.specs.Forest.{Forest, IsChain, IsForest}
@@ -39,7 +39,7 @@ pub record LeadsToChain (last : LastWords) (link : ℕ) : Type 0 where
   pub rows : AreRows last.rows chain
 
 -- the last words are a forest of this table
-pub record IsLastForest (plan : YardPlan) (last : LastWords) (state : List TreeState) : Type 0 where
+pub record IsLastForest (plan : RowPlan) (last : LastWords) (state : List TreeState) : Type 0 where
   pub rows_are : last.rows ≡ rows_of plan
   pub forest : Forest
   pub stands : IsForest plan.trees (rows_of plan) (nodes_in last) (modes (row_words (words_in last))) state forest

@@ -5,7 +5,7 @@ use Rattle.lt_seq.specs.declared.event.Event.{Event}
 use Rattle.lt_seq.specs.declared.event.Pair.{Pair}
 use Rattle.lt_seq.specs.declared.event.Mode.TheVariants.{Tree as TreeMode, Buffer}
 use Rattle.lt_seq.specs.History.{after, IsLegal}
-use Rattle.lt_seq.specs.SeqPass.{plain}
+use Rattle.lt_rows.specs.Plan.{setting_of}
 use Rattle.lt_seq.specs.Table.{tree_at}
 use Rattle.lt_forest.specs.Pairs.{Has}
 use Rattle.lt_forest.specs.Trees.{pairs_in}
@@ -26,24 +26,24 @@ use Rattle.lt_rows.specs.Lawful.{shown, KnowsTop, IsCommit}
 
 -- the history is legal
 abbrev pub HistoryIsLegal : Type 0
-HistoryIsLegal = (v : View) (log : List Event) → Stood (woods v.plan) v log → IsLegal (plain v.plan) log
+HistoryIsLegal = (v : View) (log : List Event) → Stood (woods v.plan) v log → IsLegal (setting_of v.plan) log
 
 -- An event that a pass may commit is the next of a legal history.
 abbrev pub CommitIsLegal : Type 0
 CommitIsLegal =
     (v : View) (rest : List Event) (e : Event) (plan : List RowImage) (change : ℤ) → Stood (woods v.plan) v (v.front ++ rest)
-    → v.mark ≤ v.plan.passes → IsCommit v.plan v e plan change → IsLegal (plain v.plan) ((v.front ++ rest) ++ e ∷ [])
+    → v.mark ≤ v.plan.passes → IsCommit v.plan v e plan change → IsLegal (setting_of v.plan) ((v.front ++ rest) ++ e ∷ [])
 
 -- A held anchor shows its tree's mode, and with no link in Tree mode that the tree has no pairs.
 abbrev pub AnchorShowsMode : Type 0
 AnchorShowsMode =
     (v : View) (log : List Event) (t : ℕ) → Stood (woods v.plan) v log → t < v.plan.trees → IsIn (has v) t
-    → mode_of (images v t) ≡ (tree_at (after (plain v.plan) log) t).mode
+    → mode_of (images v t) ≡ (tree_at (after (setting_of v.plan) log) t).mode
 
 abbrev pub NoLinkShowsNoPairs : Type 0
 NoLinkShowsNoPairs =
     (v : View) (log : List Event) (t score : ℕ) → Stood (woods v.plan) v log → t < v.plan.trees → IsIn (has v) t
-    → mode_of (images v t) ≡ TreeMode score → (shown v [] t).left ≡ 0 → (tree_at (after (plain v.plan) log) t).pairs ≡ []
+    → mode_of (images v t) ≡ TreeMode score → (shown v [] t).left ≡ 0 → (tree_at (after (setting_of v.plan) log) t).pairs ≡ []
 
 -- The links of the anchors, of rows with a seen gap and of rows of a part are followed.
 abbrev pub AnchorIsLinked : Type 0
@@ -102,19 +102,19 @@ abbrev pub PartShowsPairsOfTree : Type 0
 PartShowsPairsOfTree =
     (v : View) (log : List Event) (t : ℕ) (top : Top) (score : ℕ) (cut : Cut) (p : Pair) → Stood (woods v.plan) v log
     → t < v.plan.trees → KnowsTop v t top score → HoldsPart (IsIn (has v)) t top (shown v []) cut
-    → Has p (pairs_in (shown v []) (bare cut)) → Has p (tree_at (after (plain v.plan) log) t).pairs
+    → Has p (pairs_in (shown v []) (bare cut)) → Has p (tree_at (after (setting_of v.plan) log) t).pairs
 
 abbrev pub ClosedPartShowsAll : Type 0
 ClosedPartShowsAll =
     (v : View) (log : List Event) (t : ℕ) (top : Top) (score : ℕ) (cut : Cut) (range : Interval) (p : Pair) → Stood (woods v.plan) v log
     → t < v.plan.trees → KnowsTop v t top score → HoldsPart (IsIn (has v)) t top (shown v []) cut → IsClosedFor range top (shown v []) cut
-    → Has p (tree_at (after (plain v.plan) log) t).pairs → overlap p.range range ≡ true → Has p (pairs_in (shown v []) (bare cut))
+    → Has p (tree_at (after (setting_of v.plan) log) t).pairs → overlap p.range range ≡ true → Has p (pairs_in (shown v []) (bare cut))
 
 abbrev pub WholePartShowsTree : Type 0
 WholePartShowsTree =
     (v : View) (log : List Event) (t score : ℕ) (cut : Cut) → Stood (woods v.plan) v log
     → t < v.plan.trees → KnowsTop v t from_anchor score → HoldsPart (IsIn (has v)) t from_anchor (shown v []) cut
-    → IsClosedFor whole from_anchor (shown v []) cut → pairs_in (shown v []) (bare cut) ≡ (tree_at (after (plain v.plan) log) t).pairs
+    → IsClosedFor whole from_anchor (shown v []) cut → pairs_in (shown v []) (bare cut) ≡ (tree_at (after (setting_of v.plan) log) t).pairs
 
 -- A chain that is held whole with its anchor shows the buffer's pairs.
 abbrev pub WholeChainShowsBuffer : Type 0
@@ -122,4 +122,4 @@ WholeChainShowsBuffer =
     (v : View) (log : List Event) (t owner count : ℕ) (chain : List ℕ) → Stood (woods v.plan) v log
     → AllHeld (IsIn (has v)) (t ∷ chain) → t < v.plan.trees → mode_of (images v t) ≡ Buffer owner count
     → IsChain (shown v []) (shown v [] t).left chain
-    → (folded owner (shown v []) chain ≡ (tree_at (after (plain v.plan) log) t).pairs) × AllOf owner (shown v []) chain × (count ≡ length chain)
+    → (folded owner (shown v []) chain ≡ (tree_at (after (setting_of v.plan) log) t).pairs) × AllOf owner (shown v []) chain × (count ≡ length chain)

@@ -1,7 +1,7 @@
 -- What a commit and a settle owe to the rows, whatever others did meanwhile.
 use Rattle.std.specs.Prelude.{◌≡◌, ℕ, ◌+◌, ◌<◌, ◌≤◌, true, List, [], ◌∷◌, ◌++◌, Option}
 use Rattle.lt_seq.specs.declared.event.Event.{Event}
-use Rattle.lt_seq.specs.declared.plan.YardPlan.{YardPlan}
+use Rattle.lt_rows.specs.declared.row_plan.RowPlan.{RowPlan}
 use Rattle.lt_rows.specs.declared.view.SeenGap.{SeenGap}
 use Rattle.lt_rows.specs.declared.view.Row.{Row}
 use Rattle.lt_rows.specs.declared.image.RowImage.{RowImage}
@@ -10,7 +10,7 @@ use Rattle.lt_rows.specs.Views.{Holds, planned_contents, used_after, settled}
 use Rattle.lt_rows.specs.Rule.{Kind, Agrees, Gaps}
 
 -- From some forest after some history: one after the event, with the used rows that the history word counts.
-pub record Deals (K : Kind) (k : YardPlan) (me : View) (e : Event) (plan : List RowImage) (add : ℕ) (forest : K.Forest)
+pub record Deals (K : Kind) (k : RowPlan) (me : View) (e : Event) (plan : List RowImage) (add : ℕ) (forest : K.Forest)
     (contents : ℕ → List ℕ) (log : List Event) : Type 0 where
   pub after : K.Forest
   pub counts : add + used_after k log ≡ 16777216 + used_after k (log ++ e ∷ [])
@@ -22,7 +22,7 @@ pub record Deals (K : Kind) (k : YardPlan) (me : View) (e : Event) (plan : List 
       → K.Placed after (planned_contents contents plan) q g
 
 -- whatever the forest and the history are, which agree with what the seat has, the event and the plan keep the shape, and the gaps of the rows of others
-abbrev pub MayCommit : Kind → YardPlan → View → Event → List RowImage → ℕ → Type 0
+abbrev pub MayCommit : Kind → RowPlan → View → Event → List RowImage → ℕ → Type 0
 MayCommit K k me e plan add =
     (forest : K.Forest) (contents : ℕ → List ℕ) (log rest : List Event) → me.mark ≤ k.passes → log ≡ me.front ++ rest
     → K.Shape forest contents log → Agrees K forest contents me → Gaps K forest contents me
@@ -38,7 +38,7 @@ pub record Keeps (K : Kind) (me : View) (plan : List RowImage) (gaps : List (Opt
   pub own : Gaps K after (planned_contents contents plan) (settled me plan gaps me.front)
 
 -- the plan shows the same forest, and the new gaps are gaps in it
-abbrev pub MaySettle : Kind → YardPlan → View → List RowImage → List (Option SeenGap) → Type 0
+abbrev pub MaySettle : Kind → RowPlan → View → List RowImage → List (Option SeenGap) → Type 0
 MaySettle K k me plan gaps =
     (forest : K.Forest) (contents : ℕ → List ℕ) (log rest : List Event) → me.plan ≡ k → log ≡ me.front ++ rest
     → K.Shape forest contents log → Agrees K forest contents me → Gaps K forest contents me

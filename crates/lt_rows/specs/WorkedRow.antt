@@ -1,6 +1,6 @@
 -- A tree's only row in a pass's view.
 use Rattle.std.specs.Prelude.{◌≡◌, ◌≢◌, ℕ, ◌<◌, slice_index, Some, None}
-use Rattle.lt_seq.specs.declared.plan.YardPlan.{YardPlan}
+use Rattle.lt_rows.specs.declared.row_plan.RowPlan.{RowPlan}
 use Rattle.lt_rows.specs.declared.view.SeenGap.{SeenGap}
 use Rattle.lt_rows.specs.declared.view.View.{View}
 use Rattle.lt_rows.specs.declared.view.Row.{Row}
@@ -12,7 +12,7 @@ abbrev pub top_gap : ℕ → ℕ → SeenGap
 top_gap tree score = record { tree = tree; low = None; high = None; score = score }
 
 -- the row alone is held, with the gap of its tree's top row, its words are those that count and these, and nothing hangs below it
-pub record HasOnly (k : YardPlan) (v : View) (tree : ℕ) (image : RowImage) : Type 0 where
+pub record HasOnly (k : RowPlan) (v : View) (tree : ℕ) (image : RowImage) : Type 0 where
   pub row : Row
   pub score : ℕ
   pub held : Holds v image.row row

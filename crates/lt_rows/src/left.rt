@@ -1,6 +1,6 @@
 //! The pairs that are left in the words of a closed table.
 ghost use Rattle.std.specs.Prelude.{◌≡◌, ◌<◌, ◌≤◌, ◌++◌, List, OnOk, IfOk};
-ghost use Rattle.lt_seq.specs.declared.plan.YardPlan.{YardPlan};
+ghost use Rattle.lt_rows.specs.declared.row_plan.RowPlan.{RowPlan};
 ghost use Rattle.lt_seq.specs.Table.{held_in};
 ghost use Rattle.lt_seq.specs.Passes.{held_from};
 ghost use Rattle.lt_seq.specs.Table.{TreeState, tree_at};
@@ -9,7 +9,8 @@ ghost use Rattle.lt_forest.specs.Forest.{IsChain, folded};
 ghost use Rattle.lt_rows.specs.LastWords.{nodes_in, AllBelow, AreRows, LeadsToTree, LeadsToChain, IsLastForest};
 
 use crate::last_words::LastWords;
-use lt_seq::{Held, Pair, YardPlan, add_held, grant};
+use crate::row_plan::RowPlan;
+use lt_seq::{Held, Pair, add_held, grant};
 use std::alloc::{AllocError, Global};
 
 /// Puts the pairs of a search tree behind others, in key order. A tree may be as deep as it has rows, so the rows whose left
@@ -83,7 +84,7 @@ fn chain_pairs(
 fn add_left(
     alloc: Global,
     last: &LastWords,
-    plan: &YardPlan,
+    plan: &RowPlan,
     tree: u32,
     left: &mut Vec<Held>,
 ) -> Result<(), AllocError>
@@ -105,7 +106,7 @@ fn add_left(
 pub(crate) fn left_of(
     alloc: Global,
     last: &LastWords,
-    plan: &YardPlan,
+    plan: &RowPlan,
 ) -> Result<Vec<Held>, AllocError>
     requires { (state : List TreeState) × IsLastForest plan.now last.now state }
     ensures { IfOk result (λ left. (state : List TreeState) → IsLastForest plan.now last.now state → left.items ≡ held_from 0 state) }

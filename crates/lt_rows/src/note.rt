@@ -10,5 +10,5 @@ use crate::rule::Place;
 pub struct RowNote {
     pub(crate) place: Place,
     pub(crate) rights: u32,
-    ghost noted: { (view place ≡ note rights (view place).front) × (place.me.1 ≡ []) },
+    ghost noted: { (view place ≡ note (view place).plan rights (view place).front) × (place.me.1 ≡ []) },
 }

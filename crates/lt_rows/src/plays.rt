@@ -143,19 +143,19 @@ impl<C: Cut> Split<View> for Shares<C> {
 
     ghost left = { λ v. sharer C.count v };
 
-    ghost right = { λ v. note C.count v.front };
+    ghost right = { λ v. note v.plan C.count v.front };
 }
 
 /// A seat that takes a note in.
 pub struct Learns;
 
 impl Join<View> for Learns {
-    ghost use Rattle.lt_rows.specs.Views.{learner, note};
+    ghost use Rattle.lt_rows.specs.Views.{learner, note, no_plan};
     ghost use Rattle.std.specs.Prelude.{[]};
 
     ghost both = { learner };
 
-    ghost spent = { note 0 [] };
+    ghost spent = { note no_plan 0 [] };
 }
 
 /// A seat that keeps its first mark, and one that has the others.

@@ -1,12 +1,12 @@
 //! The rule of the table's words, which holds between any two steps.
+use crate::row_plan::RowPlan;
 use crate::view::View;
 use atomic_table::{Seat, Shared, TableRule};
-use lt_seq::YardPlan;
 
 /// The one-table invariant: the words and what all seats know are one range table after one history.
 pub struct Rule;
 
-impl TableRule<(), View, YardPlan> for Rule {
+impl TableRule<(), View, RowPlan> for Rule {
     ghost use Rattle.lt_rows.specs.Rule.{Rows};
     ghost use Rattle.lt_rows.specs.Views.{opener};
     ghost use Rattle.lt_rows.specs.Woods.{woods};
@@ -17,7 +17,7 @@ impl TableRule<(), View, YardPlan> for Rule {
 }
 
 /// The words of a table.
-pub type Words = Shared<(), View, YardPlan, Rule>;
+pub type Words = Shared<(), View, RowPlan, Rule>;
 
 /// A seat of a table.
 pub type Place = Seat<(), View>;

@@ -3,7 +3,7 @@ use Rattle.std.proofs.Common.{◌≡◌, ℕ, ◌+◌, ◌<◌, List, [], ◌∷
 use Rattle.std.specs.Prelude.{None}
 use Rattle.lt_ranges.specs.Interval.{Interval}
 use Rattle.lt_seq.specs.Pairs.{IsLawful}
-use Rattle.lt_seq.specs.SeqPass.{plain}
+use Rattle.lt_rows.specs.Plan.{setting_of}
 use Rattle.lt_seq.proofs.LawfulLaws.{sound_history}
 use Rattle.lt_forest.specs.declared.part.PartRow.{PartRow}
 use Rattle.lt_forest.specs.Trees.{in_order, pair_of, pairs_in}
@@ -36,7 +36,7 @@ module _ (v : View) (tree : ℕ) (asked : Interval) (here : ℕ) (rows : List Pa
       let seen = seen_top v.plan v [] st.forest st.contents log st.shape st.agrees st.gaps tree lt l.top l.score l.knows in
       let mode = mode_top v.plan v [] st.forest st.contents log st.shape st.agrees st.gaps tree lt l.top l.score part.top_held l.knows in
       subst IsLawful (sym (true_pairs agree part))
-      (part_lawful (true_part agree part st.shape.forest (sound_history (plain v.plan) log st.shape.legal) lt mode seen))
+      (part_lawful (true_part agree part st.shape.forest (sound_history (setting_of v.plan) log st.shape.legal) lt mode seen))
 
   below : (p : Place) → IsLawful (pairs_in (shown v []) (bare (around p here (shown v [] here) l.sub))) → IsLawful (pairs_in (shown v []) (bare l.sub))
   below below_top h = h

@@ -4,7 +4,7 @@ use Rattle.std.specs.Prelude.{Option, Some, None}
 use mathlib.Core.Logic.{dite}
 use native.Mathlib.Decide.{ℕ_discrete}
 use Rattle.lt_ranges.specs.Interval.{Interval}
-use Rattle.lt_seq.specs.declared.plan.YardPlan.{YardPlan}
+use Rattle.lt_rows.specs.declared.row_plan.RowPlan.{RowPlan}
 use Rattle.lt_forest.specs.Trees.{Node, Nodes}
 use Rattle.lt_forest.specs.Views.{IsIn}
 use Rattle.lt_forest.specs.Links.{Slot, left_of, right_of, row_with, link_in, IsLink, IsLinkOf, Leads, by_link, and_on}
@@ -125,7 +125,7 @@ pair_met v w tree asked here child m p = record {
   );
   spot = spot_on v w tree asked here (child.row + 1) (ap (λ (x : View). x.plan) m.0) (met_rows v w here.row m) p.spot;
   gap = gap_on v w tree asked child.row (met_rows v w child.row m) p.gap;
-  further = subst (λ (k : YardPlan). k.trees < child.row) (sym (ap (λ (x : View). x.plan) m.0)) p.further;
+  further = subst (λ (k : RowPlan). k.trees < child.row) (sym (ap (λ (x : View). x.plan) m.0)) p.further;
   apart = p.apart;
   held = λ q h. p.held q (h.0, sym (met_rows v w q m) ∙ h.1);
   gathers = met_gathers v w m p.gathers;
@@ -231,8 +231,8 @@ module _ (v w : View) (tree : ℕ) (asked : Interval) (here child : RowImage) (p
         low_gap = (record { words = t.tries.0; image = t.tries.0; gap = gap_for v low.row }, g.0, taken.0, g.1, g.2);
         link = t.link;
         further = (
-          subst (λ (k : YardPlan). k.trees < child.row) (sym deeper_plan) p.further,
-          subst (λ (k : YardPlan). k.trees < low.row) (sym deeper_plan) f.0,
+          subst (λ (k : RowPlan). k.trees < child.row) (sym deeper_plan) p.further,
+          subst (λ (k : RowPlan). k.trees < low.row) (sym deeper_plan) f.0,
         );
         apart = p.apart;
         low_apart = (low_apart_from here.row (held_row v here.row p.has.0), low_apart_from child.row (held_row v child.row p.child_has.0));

@@ -3,7 +3,7 @@ use Rattle.std.proofs.Common.{◌≡◌, ℕ, zero, suc, List, [], ◌∷◌, �
 use Rattle.std.specs.Prelude.{Option, None, slice_index_or}
 use Rattle.std.specs.List.{All}
 use Rattle.std.proofs.lemmas.List.Elements.{All-head, All-tail}
-use Rattle.lt_seq.specs.declared.plan.YardPlan.{YardPlan}
+use Rattle.lt_rows.specs.declared.row_plan.RowPlan.{RowPlan}
 use Rattle.lt_seq.specs.Passes.{numbers_from}
 use Rattle.lt_rows.specs.declared.table.RowTable.{RowTable}
 use Rattle.lt_rows.specs.declared.pass.RowPass.{RowPass}
@@ -41,12 +41,12 @@ pub record AreBoth (t : RowTable) (one two : RowPass) : Type 0 where
   pub holds : HoldsNone (knows one)
   pub holds_too : HoldsNone (knows two)
 
-pub both_new : (t : RowTable) (k : YardPlan) (items xs ys : List RowPass) (one two : RowPass) → t.plan ≡ k → k.passes ≡ 2 → AreItsPasses t items
+pub both_new : (t : RowTable) (k : RowPlan) (items xs ys : List RowPass) (one two : RowPass) → t.plan ≡ k → k.passes ≡ 2 → AreItsPasses t items
     → items ≡ xs ++ two ∷ [] → xs ≡ ys ++ one ∷ [] → AreBoth t one two
 both_new t k items xs ys one two plan passes new last first = go ys (last ∙ ap (λ (l : List RowPass). l ++ two ∷ []) first)
   where
     count : t.plan.passes ≡ 2
-    count = ap (λ (p : YardPlan). p.passes) plan ∙ passes
+    count = ap (λ (p : RowPlan). p.passes) plan ∙ passes
 
     numbers : map (λ (p : RowPass). p.number) items ≡ 0 ∷ 1 ∷ []
     numbers = new.numbers ∙ ap (numbers_from 0) count

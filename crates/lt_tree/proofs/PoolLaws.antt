@@ -5,10 +5,10 @@ use Rattle.std.specs.Prelude.{Option, Some, None, nat_eq}
 use mathlib.Core.Logic.{dite}
 use native.Mathlib.Decide.{ℕ_discrete}
 use Rattle.lt_ranges.specs.Interval.{Interval}
-use Rattle.lt_seq.specs.declared.plan.YardPlan.{YardPlan}
+use Rattle.lt_rows.specs.declared.row_plan.RowPlan.{RowPlan}
 use Rattle.lt_seq.specs.declared.event.Mode.{Mode}
 use Rattle.lt_seq.specs.Table.{TreeState}
-use Rattle.lt_seq.specs.SeqPass.{plain}
+use Rattle.lt_rows.specs.Plan.{setting_of}
 use Rattle.lt_seq.proofs.LawfulLaws.{sound_history}
 use Rattle.lt_forest.specs.declared.part.PartRow.{PartRow}
 use Rattle.lt_forest.specs.Counts.{one_if, times}
@@ -217,7 +217,7 @@ module _ (v : View) (tree : ℕ) (asked : Interval) (here : ℕ) (rows : List Pa
       let agree = (view_is v [] st.contents st.agrees).before in
       let seen = seen_top v.plan v [] st.forest st.contents log st.shape st.agrees st.gaps tree lt l.top l.score l.knows in
       let mode = mode_top v.plan v [] st.forest st.contents log st.shape st.agrees st.gaps tree lt l.top l.score part.top_held l.knows in
-      part_apart (true_part agree part st.shape.forest (sound_history (plain v.plan) log st.shape.legal) lt mode seen) q
+      part_apart (true_part agree part st.shape.forest (sound_history (setting_of v.plan) log st.shape.legal) lt mode seen) q
       (ap (λ (n : Node). n.left) (sym (agree v.plan.trees held)) ∙ is)
 
 -- without rows of the pool, its anchor may be taken
@@ -274,7 +274,7 @@ finds_vacant v tree asked here rows hangs l lt licensed link link_is =
               omega arith
         ])
 
-pub anchor_row : (k : YardPlan) → k.trees < all_rows k
+pub anchor_row : (k : RowPlan) → k.trees < all_rows k
 unfolding all_rows
 anchor_row k = omega arith
 
@@ -299,10 +299,10 @@ anchor_held v tree asked here rows hangs pool l has_anchor = held_row v v.plan.t
         let o = one_here v.plan.trees in omega arith
 
 -- the pool's anchor is loaded, and the row to which it leads is taken
-module _ {v : View} {tree : ℕ} {asked : Interval} {here : ℕ} {rows : List PartRow} {hangs : List ℕ} (k : YardPlan)
+module _ {v : View} {tree : ℕ} {asked : Interval} {here : ℕ} {rows : List PartRow} {hangs : List ℕ} (k : RowPlan)
     (l : IsLockedWith v tree asked here rows hangs (v.plan.trees ∷ [])) (plan : v.plan ≡ k) (lt : tree < k.trees) (t : ℕ) (t_is : t ≡ k.trees) where
   at_pool : t ≡ v.plan.trees
-  at_pool = t_is ∙ ap (λ (p : YardPlan). p.trees) (sym plan)
+  at_pool = t_is ∙ ap (λ (p : RowPlan). p.trees) (sym plan)
 
   pub pool_held : IsHeld v v.plan.trees
   pool_held = held_row v v.plan.trees (l.held_more.held v.plan.trees (let o = one_here v.plan.trees in omega arith))
@@ -321,7 +321,7 @@ module _ {v : View} {tree : ℕ} {asked : Interval} {here : ℕ} {rows : List Pa
     leads = link_is ∙ ap (λ (ws : List ℕ). (node_of ws).left) counts
 
     pub found : FindsVacant v link
-    found = finds_vacant v tree asked here rows hangs l (subst (λ (p : YardPlan). tree < p.trees) (sym plan) lt) licensed link leads
+    found = finds_vacant v tree asked here rows hangs l (subst (λ (p : RowPlan). tree < p.trees) (sym plan) lt) licensed link leads
 
     module _ {w : View} (s : Seizes (link - 1) v w Taken) where
       plan_on : w.plan ≡ v.plan
@@ -329,7 +329,7 @@ module _ {v : View} {tree : ℕ} {asked : Interval} {here : ℕ} {rows : List Pa
 
       pub took_first : Teaches w → IsLockedWith w tree asked here rows hangs ((link - 1) ∷ w.plan.trees ∷ [])
       took_first teaches =
-          subst (λ (p : YardPlan). IsLockedWith w tree asked here rows hangs ((link - 1) ∷ p.trees ∷ [])) (sym plan_on)
+          subst (λ (p : RowPlan). IsLockedWith w tree asked here rows hangs ((link - 1) ∷ p.trees ∷ [])) (sym plan_on)
           (locked_takes v tree asked here rows hangs l w (link - 1) s found.free teaches)
 
       pub first_keeps : KeepsRows v w
@@ -341,7 +341,7 @@ module _ {v : View} {tree : ℕ} {asked : Interval} {here : ℕ} {rows : List Pa
           let some = found.some in
           let row = seized_row (link - 1) v w s in
           let keeps = first_keeps v.plan.trees pool_held in
-          let trees : w.plan.trees ≡ v.plan.trees = ap (λ (p : YardPlan). p.trees) plan_on in (
+          let trees : w.plan.trees ≡ v.plan.trees = ap (λ (p : RowPlan). p.trees) plan_on in (
             subst (IsHeld w) (sym trees) (pool_held.0, keeps ∙ pool_held.1),
             (row.0, row.1),
             omega arith,

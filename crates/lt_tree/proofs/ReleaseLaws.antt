@@ -6,7 +6,7 @@ use native.Mathlib.Decide.{ℕ_discrete}
 use Rattle.lt_ranges.specs.Interval.{Interval}
 use Rattle.lt_seq.specs.declared.event.Mode.{Mode}
 use Rattle.lt_seq.specs.Table.{TreeState}
-use Rattle.lt_seq.specs.SeqPass.{plain}
+use Rattle.lt_rows.specs.Plan.{setting_of}
 use Rattle.lt_seq.proofs.LawfulLaws.{sound_history}
 use Rattle.lt_forest.specs.declared.part.PartRow.{PartRow}
 use Rattle.lt_forest.specs.Counts.{one_if, times}
@@ -55,7 +55,7 @@ module _ (v : View) (tree : ℕ) (asked : Interval) (here : ℕ) (rows : List Pa
       let agree = (view_is v [] st.contents st.agrees).before in
       let seen = seen_top v.plan v [] st.forest st.contents log st.shape st.agrees st.gaps tree lt l.top l.score l.knows in
       let mode = mode_top v.plan v [] st.forest st.contents log st.shape st.agrees st.gaps tree lt l.top l.score part.top_held l.knows in
-      part_once (true_part agree part st.shape.forest (sound_history (plain v.plan) log st.shape.legal) lt mode seen) r
+      part_once (true_part agree part st.shape.forest (sound_history (setting_of v.plan) log st.shape.legal) lt mode seen) r
 
   held_once : (p : Place) → TopIs p tree here l.top → (r : ℕ) → IsOnce v.plan.trees (around p here (shown v [] here) l.sub) r
       → times r (here ∷ in_order (bare l.sub)) ≤ 1

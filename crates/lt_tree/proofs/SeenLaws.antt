@@ -1,11 +1,11 @@
 -- What a search may have seen of others' events meanwhile.
 use Rattle.std.proofs.Common.{◌≡◌, ℕ, ◌+◌, ◌≤◌, List, [], ◌∷◌, ◌++◌, refl, sym, ap, ◌∙◌, subst, arith, append_assoc, append-nil}
 use Rattle.lt_seq.specs.declared.event.Event.{Event}
-use Rattle.lt_seq.specs.declared.plan.YardPlan.{YardPlan}
+use Rattle.lt_rows.specs.declared.row_plan.RowPlan.{RowPlan}
 use Rattle.lt_seq.specs.declared.fault.Fault.{Fault}
 use Rattle.lt_seq.specs.declared.fault.Fault.TheVariants.{Busy, OutOfMemory, HistoryFull, OutOfLocks}
 use Rattle.lt_seq.specs.History.{IsLegal}
-use Rattle.lt_seq.specs.SeqPass.{plain}
+use Rattle.lt_rows.specs.Plan.{setting_of}
 use Rattle.lt_rows.specs.declared.view.View.{View}
 use Rattle.lt_rows.specs.declared.image.RowImage.{RowImage}
 use Rattle.lt_rows.specs.Rule.{NoneOf}
@@ -38,7 +38,7 @@ seen_rows v w o = record {
       (ap (With v (record v { held = w.held; met = w.met; met_row = w.met_row; met_mark = w.met_mark })) (sym (append-nil v.front)));
   own = λ number low high. tt;
   alone = λ e. refl;
-  legal = λ l. subst (IsLegal (plain v.plan)) (sym (ap (λ (x : View). x.front) o.0)) l;
+  legal = λ l. subst (IsLegal (setting_of v.plan)) (sym (ap (λ (x : View). x.front) o.0)) l;
   met = o.1;
 }
 
@@ -66,9 +66,9 @@ seen_on v w u one two = record {
   own = λ number low high. none_of_both number one.rest two.rest (one.own number low high)
       (two.own number (subst (λ (m : ℕ). m ≤ number + 1) (sym mark) low) (omega (arith, mark, numbers, high)));
   alone = λ e. ap (λ (xs : List Event). xs ++ two.rest) (one.alone e)
-      ∙ two.alone (rights ∙ (e ∙ ap (λ (k : YardPlan). k.passes) (sym plan_is)));
-  legal = λ l. subst (λ (k : YardPlan). IsLegal (plain k) u.front) plan_is
-      (two.legal (subst (λ (k : YardPlan). IsLegal (plain k) w.front) (sym plan_is) (one.legal l)));
+      ∙ two.alone (rights ∙ (e ∙ ap (λ (k : RowPlan). k.passes) (sym plan_is)));
+  legal = λ l. subst (λ (k : RowPlan). IsLegal (setting_of k) u.front) plan_is
+      (two.legal (subst (λ (k : RowPlan). IsLegal (setting_of k) w.front) (sym plan_is) (one.legal l)));
   met = let a = one.met in let b = two.met in omega arith;
 }
   where
@@ -98,7 +98,7 @@ seen_settled v w plan place s = record {
   view = subst (λ (x : View). x ≡ With v x (v.front ++ s.0)) (sym s.2) refl;
   own = s.1.own;
   alone = s.1.alone;
-  legal = λ l. subst (IsLegal (plain v.plan)) (sym (ap (λ (x : View). x.front) s.2)) (history_is_legal v (v.front ++ s.0) s.1.stood);
+  legal = λ l. subst (IsLegal (setting_of v.plan)) (sym (ap (λ (x : View). x.front) s.2)) (history_is_legal v (v.front ++ s.0) s.1.stood);
   met = subst (λ (x : View). v.met ≤ x.met) (sym s.2) (omega arith);
 }
 

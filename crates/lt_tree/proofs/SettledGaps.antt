@@ -5,7 +5,7 @@ use Rattle.std.specs.Prelude.{Option, Some, None, nat_eq}
 use mathlib.Core.Logic.{dite}
 use native.Mathlib.Decide.{ℕ_discrete}
 use Rattle.lt_ranges.specs.Interval.{Interval}
-use Rattle.lt_seq.specs.declared.plan.YardPlan.{YardPlan}
+use Rattle.lt_rows.specs.declared.row_plan.RowPlan.{RowPlan}
 use Rattle.lt_forest.specs.Counts.{one_if, times}
 use Rattle.lt_forest.specs.Forest.{IsTree}
 use Rattle.lt_forest.specs.Views.{IsIn}
@@ -206,7 +206,7 @@ module _ (v w : View) (here : RowImage) (front : List RowImage) (p : RowImage) (
       ∙ (ap gap_of (regap_else v.plan.trees (set then_rows p.row anew) back p.row (only_once p back (omega arith)))
       ∙ (ap gap_of (get_or-set_same then_rows p.row anew None (inside_list then_rows p.row y.0 y.1))
       ∙ (ap (λ (x : Option Row). gap_of (with_gap x (gap_from v.plan.trees 0 then_rows p.row))) y.1
-      ∙ ap (λ (k : YardPlan). gap_from k.trees 0 then_rows p.row) (sym (seen_plan v w s.seen))))))
+      ∙ ap (λ (k : RowPlan). gap_from k.trees 0 then_rows p.row) (sym (seen_plan v w s.seen))))))
 
 -- The held row has the words that it was settled with, and its gap as it was: from it the search goes on as before, where the link
 -- stands on the same side.
@@ -232,7 +232,7 @@ module _ (v w : View) (here here' : RowImage) (rest : List RowImage) (s : Settle
   spot_settled tree asked link link' mode left goes (at_row row g held gap t inside more to) =
       let new = keeps_gap row g held gap in
       at_row new.0 g new.1 new.2 t inside
-      (subst (λ (k : YardPlan). k.trees < here'.row) (sym (seen_plan v w s.seen)) (let e = same in omega arith)) (goes to)
+      (subst (λ (k : RowPlan). k.trees < here'.row) (sym (seen_plan v w s.seen)) (let e = same in omega arith)) (goes to)
 
 -- The row to which the held row leads after the settle stands in a gap of the tree in which the asked range lies.
 module _ (v w : View) (here upper : RowImage) (rest : List RowImage) (s : SettlesRows v w (here ∷ upper ∷ rest))

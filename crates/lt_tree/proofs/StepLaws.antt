@@ -4,7 +4,7 @@ use Rattle.std.specs.Prelude.{Option, Some, None}
 use mathlib.Core.Logic.{dite}
 use native.Mathlib.Decide.{ℕ_discrete}
 use Rattle.lt_ranges.specs.Interval.{Interval}
-use Rattle.lt_seq.specs.declared.plan.YardPlan.{YardPlan}
+use Rattle.lt_rows.specs.declared.row_plan.RowPlan.{RowPlan}
 use Rattle.lt_forest.specs.Counts.{one_if, times}
 use Rattle.lt_forest.specs.Links.{Slot, left_of, right_of, row_with, link_in, Leads}
 use Rattle.lt_rows.specs.declared.view.View.{View}
@@ -38,7 +38,7 @@ has_on v w q ws e h = subst (λ (x : Option Row). HasEntry x ws) (sym e) h
 
 pub spot_on : (v w : View) (tree : ℕ) (asked : Interval) (here : RowImage) (link : ℕ) → w.plan ≡ v.plan → row_at w here.row ≡ row_at v here.row → Spot v tree asked here link → Spot w tree asked here link
 spot_on v w tree asked here link plan_is e (at_anchor row mode is) = at_anchor row mode is
-spot_on v w tree asked here link plan_is e (at_row row g held gap t inside more goes) = at_row row g (e ∙ held) gap t inside (subst (λ (k : YardPlan). k.trees < here.row) (sym plan_is) more) goes
+spot_on v w tree asked here link plan_is e (at_row row g held gap t inside more goes) = at_row row g (e ∙ held) gap t inside (subst (λ (k : RowPlan). k.trees < here.row) (sym plan_is) more) goes
 
 -- rows of a view with one row less
 
@@ -92,13 +92,13 @@ pub record TakesChild (v w : View) (tree : ℕ) (asked : Interval) (here : RowIm
   pub words_is : child.words ≡ words_of (row_at w (link - 1))
   pub teaches : Teaches w
 
-pub took_child : {v x w : View} {tree : ℕ} {asked : Interval} {here : RowImage} {link steps : ℕ} {above : List ℕ} {child : RowImage} (k : YardPlan)
+pub took_child : {v x w : View} {tree : ℕ} {asked : Interval} {here : RowImage} {link steps : ℕ} {above : List ℕ} {child : RowImage} (k : RowPlan)
     → tree < k.trees → v.plan ≡ k → Descends v tree asked here link steps above → link ≢ 0 → Seizes (link - 1) v x Taken → w ≡ x
     → child.row ≡ link - 1 → child.words ≡ words_of (row_at x (link - 1)) → Teaches x
     → TakesChild v w tree asked here link steps above child
 took_child {v} {x} {w} {tree} {asked} {here} {link} {steps} {above} {child} k lt is d some s same row words teaches = record {
   was = d;
-  in_range = subst (λ (p : YardPlan). tree < p.trees) (sym is) lt;
+  in_range = subst (λ (p : RowPlan). tree < p.trees) (sym is) lt;
   some = some;
   seizes = subst (λ (u : View). Seizes (link - 1) v u Taken) (sym same) s;
   row_is = row;
@@ -141,7 +141,7 @@ module _ {v w : View} {tree : ℕ} {asked : Interval} {here : RowImage} {link st
       (λ ne. inr (t.was.held q (h.0, sym (seized_else (link - 1) v w t.seizes q ne) ∙ h.1)))
 
   child_further : w.plan.trees < child.row
-  child_further = subst (λ (n : ℕ). w.plan.trees < n) (sym t.row_is) (subst (λ (k : YardPlan). k.trees < link - 1) (sym plan_is) (further v tree asked here link steps above t.was t.in_range t.some).0)
+  child_further = subst (λ (n : ℕ). w.plan.trees < n) (sym t.row_is) (subst (λ (k : RowPlan). k.trees < link - 1) (sym plan_is) (further v tree asked here link steps above t.was t.in_range t.some).0)
 
   pub apart : child.row ≢ here.row
   apart e = not_held v tree asked here link steps above t.was t.in_range t.some here.row here_held (sym e ∙ t.row_is)

@@ -11,7 +11,7 @@ use Rattle.lt_forest.specs.Cuts.{bare}
 use Rattle.lt_forest.specs.Parts.{part_row}
 use Rattle.lt_forest.proofs.SameRows.{times-++}
 use Rattle.lt_forest.proofs.WidenLaws.{length-hangs_of}
-use Rattle.lt_seq.specs.declared.plan.YardPlan.{YardPlan}
+use Rattle.lt_rows.specs.declared.row_plan.RowPlan.{RowPlan}
 use Rattle.lt_rows.specs.declared.view.View.{View}
 use Rattle.lt_rows.specs.declared.view.Row.{Row}
 use Rattle.lt_rows.specs.declared.take.Take.TheVariants.{Taken}
@@ -105,13 +105,13 @@ pub record TakesHang (v w : View) (tree : ℕ) (asked : Interval) (here : ℕ) (
   pub teaches : Teaches w
   pub words_is : words ≡ words_of (row_at w r)
 
-pub took_hang : {v x w : View} {tree : ℕ} {asked : Interval} {here : ℕ} {rows : List PartRow} {hangs : List ℕ} {at r : ℕ} {words : List ℕ} (k : YardPlan)
+pub took_hang : {v x w : View} {tree : ℕ} {asked : Interval} {here : ℕ} {rows : List PartRow} {hangs : List ℕ} {at r : ℕ} {words : List ℕ} (k : RowPlan)
     → tree < k.trees → v.plan ≡ k → IsLocked v tree asked here rows hangs → at < length hangs → get_or hangs at 0 ≡ suc r
     → Seizes r v x Taken → w ≡ x → words ≡ words_of (row_at x r) → Teaches x
     → TakesHang v w tree asked here rows hangs at r words
 took_hang {v} {x} {w} {tree} {asked} {here} {rows} {hangs} {at} {r} {words} k lt plan l inside is s same loaded teaches = record {
   was = l;
-  in_range = subst (λ (p : YardPlan). tree < p.trees) (sym plan) lt;
+  in_range = subst (λ (p : RowPlan). tree < p.trees) (sym plan) lt;
   inside = inside;
   is = is;
   seizes = subst (λ (u : View). Seizes r v u Taken) (sym same) s;

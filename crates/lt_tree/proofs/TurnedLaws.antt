@@ -4,7 +4,7 @@ use Rattle.std.specs.Prelude.{Some, None, nat_eq}
 use mathlib.Core.Logic.{dite}
 use native.Mathlib.Decide.{ℕ_discrete}
 use Rattle.lt_ranges.specs.Interval.{Interval, before}
-use Rattle.lt_seq.specs.declared.plan.YardPlan.{YardPlan}
+use Rattle.lt_rows.specs.declared.row_plan.RowPlan.{RowPlan}
 use Rattle.lt_forest.specs.Counts.{one_if, times}
 use Rattle.lt_forest.specs.Trees.{Node}
 use Rattle.lt_forest.specs.Forest.{IsTree}
@@ -70,7 +70,7 @@ module _ (v w : View) (tree : ℕ) (asked : Interval) (here child now : RowImage
     spot = spot_settled v w here now [] s m.0 once_one tree asked (child.row + 1) (child.row + 1)
         (λ row mode. subst IsTree (sym (m.2 row)) mode) (λ link. link ∙ ap (λ (x : Node). x.left) (sym m.1)) (goes_on (node_of now.words) m.1) p.spot;
     gap = gap_on v w tree asked child.row child_stays p.gap;
-    further = subst (λ (k : YardPlan). k.trees < child.row) (sym (seen_plan v w s.seen)) p.further;
+    further = subst (λ (k : RowPlan). k.trees < child.row) (sym (seen_plan v w s.seen)) p.further;
     apart = λ e. p.apart (e ∙ m.0);
     held = λ q h. ⊎_elim (λ (is : q ≡ child.row). inl is) (λ (is : q ≡ here.row). inr (is ∙ sym m.0))
         (p.held q (held_same w v (λ r. sym (s.same r)) q h));
@@ -167,10 +167,10 @@ module _ (v w : View) (tree : ℕ) (asked : Interval) (here child low stays uppe
     lower_there = held_row w lower.row s.words.1.1.0.0
 
     upper_further : w.plan.trees < upper.row
-    upper_further = subst (λ (k : YardPlan). k.trees < upper.row) (sym plan_is) (let f = h.further.1 in let e = t.upper_row in omega arith)
+    upper_further = subst (λ (k : RowPlan). k.trees < upper.row) (sym plan_is) (let f = h.further.1 in let e = t.upper_row in omega arith)
 
     upper_gap : HasGapAround w tree asked upper.row
-    upper_gap = child_settled v w stays upper (lower ∷ []) s turn_once tree (subst (λ (k : YardPlan). tree < k.trees) (sym plan_is) t.in_range) asked spot_now
+    upper_gap = child_settled v w stays upper (lower ∷ []) s turn_once tree (subst (λ (k : RowPlan). tree < k.trees) (sym plan_is) t.in_range) asked spot_now
 
     -- the lower one is given back
     module _ (u : View) (put : u ≡ with_row w lower.row None) where
@@ -196,7 +196,7 @@ module _ (v w : View) (tree : ℕ) (asked : Interval) (here child low stays uppe
         teaches = put_teaches w u lower.row put lower_there s.teaches;
         spot = spot_on w u tree asked stays (upper.row + 1) (put_plan w u lower.row put lower_there) stays_kept spot_now;
         gap = gap_on w u tree asked upper.row upper_kept upper_gap;
-        further = subst (λ (k : YardPlan). k.trees < upper.row) (sym (put_plan w u lower.row put lower_there)) upper_further;
+        further = subst (λ (k : RowPlan). k.trees < upper.row) (sym (put_plan w u lower.row put lower_there)) upper_further;
         apart = upper_apart;
         held = held_now;
         gathers = put_gathers lower.row w u lower_there.0 lower_there.1 put s.gathers;

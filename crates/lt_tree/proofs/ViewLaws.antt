@@ -3,7 +3,7 @@ use Rattle.std.proofs.Common.{◌≡◌, ◌≢◌, ℕ, ◌<◌, List, set, get
 use Rattle.std.specs.Prelude.{Option, Some, None}
 use mathlib.Core.Logic.{dite}
 use native.Mathlib.Decide.{ℕ_discrete}
-use Rattle.lt_seq.specs.declared.plan.YardPlan.{YardPlan}
+use Rattle.lt_rows.specs.declared.row_plan.RowPlan.{RowPlan}
 use Rattle.lt_rows.specs.declared.view.View.{View}
 use Rattle.lt_rows.specs.declared.view.Row.{Row}
 use Rattle.lt_rows.specs.declared.image.RowImage.{RowImage}
@@ -19,7 +19,7 @@ use Rattle.lt_seq.specs.declared.fault.Fault.TheVariants.{OutOfMemory, Busy, His
 use Rattle.lt_seq.specs.declared.fault.Fault.{Fault}
 use Rattle.lt_tree.specs.States.{HoldsNone, HoldsOnly, OnlyMet, OnlyHeld, OnlyRows, KeepsRows, Seizes, HasWords, IsRefused, IsPrepared}
 
-pub tree_row : (k : YardPlan) (t : ℕ) → t < k.trees → t < rows_of k
+pub tree_row : (k : RowPlan) (t : ℕ) → t < k.trees → t < rows_of k
 unfolding rows_of
 tree_row k t lt = omega arith
 

@@ -4,7 +4,7 @@ use Rattle.std.specs.Prelude.{Option, Some, None, nat_eq}
 use mathlib.Core.Logic.{dite}
 use native.Mathlib.Decide.{ℕ_discrete}
 use Rattle.lt_ranges.specs.Interval.{Interval}
-use Rattle.lt_seq.specs.SeqPass.{plain}
+use Rattle.lt_rows.specs.Plan.{setting_of}
 use Rattle.lt_seq.proofs.LawfulLaws.{sound_history}
 use Rattle.lt_forest.specs.declared.part.PartRow.{PartRow}
 use Rattle.lt_forest.specs.Counts.{one_if, times}
@@ -111,7 +111,7 @@ module _ (v : View) (tree : ℕ) (asked : Interval) (here : ℕ) (rows : List Pa
       let agree = (view_is v [] st.contents st.agrees).before in
       let seen = seen_top v.plan v [] st.forest st.contents log st.shape st.agrees st.gaps tree lt l.top l.score l.knows in
       let mode = mode_top v.plan v [] st.forest st.contents log st.shape st.agrees st.gaps tree lt l.top l.score holds_part.top_held l.knows in
-      hang_names (true_part agree holds_part st.shape.forest (sound_history (plain v.plan) log st.shape.legal) lt mode seen) r
+      hang_names (true_part agree holds_part st.shape.forest (sound_history (setting_of v.plan) log st.shape.legal) lt mode seen) r
       (let one : suc r ≡ r + 1 = omega arith in
       subst (λ (x : ℕ). 0 < times x (hangs_of whole)) one
       (seen_around l.place here (shown v [] here) l.sub (suc r) (subst (λ (xs : List ℕ). 0 < times (suc r) xs) (sym l.hangs_are) some)))

@@ -2,7 +2,7 @@
 use Rattle.std.specs.Prelude.{◌≡◌, ◌≢◌, ℕ, ◌+◌, ◌<◌, ◌≤◌, List, [], ◌++◌, None}
 use Rattle.lt_seq.specs.declared.event.Event.{Event}
 use Rattle.lt_seq.specs.History.{IsLegal}
-use Rattle.lt_seq.specs.SeqPass.{plain}
+use Rattle.lt_rows.specs.Plan.{setting_of}
 use Rattle.lt_seq.specs.declared.fault.Fault.{Fault}
 use Rattle.lt_seq.specs.declared.fault.Fault.TheVariants.{Busy, OutOfMemory, HistoryFull, OutOfLocks}
 use Rattle.lt_forest.specs.Views.{IsIn}
@@ -49,7 +49,7 @@ pub record SeesOn (v w : View) : Type 0 where
   pub own : IsOfOthers v rest
   -- with all the rights nothing was new to it
   pub alone : v.rights ≡ v.plan.passes → rest ≡ []
-  pub legal : IsLegal (plain v.plan) v.front → IsLegal (plain v.plan) w.front
+  pub legal : IsLegal (setting_of v.plan) v.front → IsLegal (setting_of v.plan) w.front
   pub met : v.met ≤ w.met
 
 -- the rows that it held it still holds as they were

@@ -2,6 +2,7 @@
 ghost use Rattle.std.specs.Prelude.{◌≡◌, ◌≢◌, ◌+◌, ◌<◌, ℕ, List, MatchOption, IfOk, IfErr, [], true};
 ghost use Rattle.lt_ranges.specs.Interval.{overlap};
 ghost use Rattle.lt_seq.specs.Yard.{IsPlan};
+ghost use Rattle.lt_rows.specs.Plan.{sizes_of};
 ghost use Rattle.lt_forest.specs.Forest.{IsTree};
 ghost use Rattle.lt_rows.specs.Nodes.{mode_of, node_of};
 ghost use Rattle.lt_rows.specs.Views.{rows_of};
@@ -16,8 +17,8 @@ use crate::put::put_all;
 use crate::seize::seize;
 use crate::turning::turn_below;
 use lt_ranges::KeyRange;
-use lt_rows::{PackedRange, RangeSide, RowImage, RowPass, RowTable, Take};
-use lt_seq::{Fault, YardPlan};
+use lt_rows::{PackedRange, RangeSide, RowImage, RowPass, RowPlan, RowTable, Take};
+use lt_seq::Fault;
 use std::alloc::Global;
 
 /// The row that stays held, and its child on the asked range's side, which overlaps the range; `None` where it has none there.
@@ -28,8 +29,8 @@ pub struct Stop {
 }
 
 /// As many steps as the table has rows.
-fn budget(plan: &YardPlan) -> usize
-    requires { IsPlan plan.now }
+fn budget(plan: &RowPlan) -> usize
+    requires { IsPlan (sizes_of plan.now) }
 {
     plan.trees as usize + 1 + plan.limit as usize + plan.passes as usize
 }

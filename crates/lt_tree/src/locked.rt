@@ -19,7 +19,7 @@ use crate::prepare::Prepared;
 use crate::put::{put_held, put_part};
 use crate::widen::{gather, widen_at};
 use lt_forest::Part;
-use lt_ranges::KeyRange;
+use lt_ranges::{Key, KeyRange};
 use lt_rows::{RowImage, RowPass, RowTable};
 use lt_seq::Fault;
 use std::alloc::Global;
@@ -217,6 +217,13 @@ impl<'a> Locked<'a> {
         ensures { result.now ≡ self.now.part }
     {
         &self.part
+    }
+
+    /// Where the table's joins stop.
+    pub fn marks(&self) -> &[Key]
+        ensures { result.now ≡ self.now.table.now.plan.marks }
+    {
+        self.table.plan().marks.as_slice()
     }
 
     /// The words of a row that is held: the row that stays, or one of the part.

@@ -1,6 +1,7 @@
 //! Searches of an empty tree, on one thread, and rows that are turned.
-ghost use Rattle.std.specs.Prelude.{◌≡◌, IfOk, IfSome, true};
+ghost use Rattle.std.specs.Prelude.{◌≡◌, [], IfOk, IfSome, true};
 ghost use Rattle.lt_seq.specs.Yard.{IsPlan};
+ghost use Rattle.lt_rows.specs.Plan.{with_marks};
 ghost use Rattle.lt_rows.specs.Nodes.{node_of};
 ghost use Rattle.lt_rows.specs.Handles.{knows, IsPassOf, IsSamePass};
 ghost use Rattle.lt_tree.specs.States.{HoldsNone};
@@ -28,7 +29,7 @@ fn plan() -> YardPlan
 /// A table of two passes, of which each has a right.
 fn both(alloc: Global, plan: &YardPlan) -> Result<Option<(RowTable, RowPass, RowPass)>, AllocError>
     requires plan { IsPlan plan.now × (plan.now.passes ≡ 2) }
-    ensures of { IfOk result (λ o. IfSome o (λ r. IsPassOf r.0 r.1 × IsPassOf r.0 r.2 × (r.0.plan ≡ plan.now))) }
+    ensures of { IfOk result (λ o. IfSome o (λ r. IsPassOf r.0 r.1 × IsPassOf r.0 r.2 × (r.0.plan ≡ with_marks plan.now []))) }
     ensures rights { IfOk result (λ o. IfSome o (λ r. (r.1.rights ≡ 1) × (r.2.rights ≡ 1))) }
     ensures none { IfOk result (λ o. IfSome o (λ r. HoldsNone (knows r.1) × HoldsNone (knows r.2))) }
 {

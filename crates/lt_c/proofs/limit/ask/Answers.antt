@@ -1,5 +1,5 @@
-use Rattle.std.proofs.Common.{rules, ◌≡◌, ◌≤◌, ℕ, ap, sym, ◌∙◌, subst, arith}
-use Rattle.lt_seq.specs.declared.plan.YardPlan.{YardPlan}
+use Rattle.std.proofs.Common.{rules, ◌≡◌, ℕ, ap, sym, subst, arith}
+use Rattle.lt_rows.specs.declared.row_plan.RowPlan.{RowPlan}
 use Rattle.lt_rows.specs.declared.view.View.{View}
 use Rattle.lt_locktree.specs.Calls.{sees}
 use Rattle.lt_c.specs.Limit.{AreJoined, AskAnswered}
@@ -12,8 +12,8 @@ returns-clause-answer c =
     let w : View = sees c.ask_at_last.new.pass in
     let joins : ℕ = c.plan-2.result.now.trees in
     let trees : ℕ = c.args.table.now.rows.plan.trees in
-    let joins_are : joins ≡ trees = ap (λ (k : YardPlan). k.trees) c.plan-2.ensures in
-    let own : v.plan.trees ≡ trees = ap (λ (k : YardPlan). k.trees) c.requires.of.1 in
+    let joins_are : joins ≡ trees = ap (λ (k : RowPlan). k.trees) c.plan-2.ensures in
+    let own : v.plan.trees ≡ trees = ap (λ (k : RowPlan). k.trees) c.requires.of.1 in
     let all : c.loop-next.next ≡ joins = search rules in
     record {
       behind = behind;

@@ -1,4 +1,4 @@
-use Rattle.std.proofs.Common.{rules, ◌≡◌, [], ◌∷◌, length, Box, IfSome, sym, ap, subst, arith, length-append}
+use Rattle.std.proofs.Common.{[], ◌∷◌, length, Box, IfSome, sym, ap, subst, arith, length-append}
 use Rattle.std.specs.Global.{Global}
 use Rattle.std.specs.List.{All}
 use Rattle.std.specs.declared.option.Option.{Option}

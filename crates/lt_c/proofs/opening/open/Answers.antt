@@ -1,5 +1,5 @@
-use Rattle.std.proofs.Common.{◌≡◌, ap, ◌∙◌, arith}
-use Rattle.lt_seq.specs.declared.plan.YardPlan.{YardPlan}
+use Rattle.std.proofs.Common.{ap, ◌∙◌, arith}
+use Rattle.lt_rows.specs.declared.row_plan.RowPlan.{RowPlan}
 use Rattle.lt_locktree.specs.declared.locktree.Locktree.{Locktree}
 use Rattle.lt_c.proofs.opening.open.Goals as goal
 
@@ -15,7 +15,7 @@ returns c = record {
           c.kept.ensures.count,
           c.in_ok-handles.ensures.count,
           c.in_ok-passes.ensures.count,
-          ap (λ (k : YardPlan). k.passes) c.in_ok-table.ensures.table,
+          ap (λ (k : RowPlan). k.passes) c.in_ok-table.ensures.table,
         );
   };
 }

@@ -1,7 +1,7 @@
 use Rattle.std.proofs.Common.{arith, ℕ, ◌≡◌, ◌-◌, ◌<◌, [], ◌∷◌, ◌++◌, List, length, sym, ap, ◌∙◌, subst, take}
 use Rattle.std.specs.Prelude.{slice_index_or}
 use Rattle.lt_forest.proofs.SameRows.{one_here}
-use Rattle.lt_seq.specs.declared.plan.YardPlan.{YardPlan}
+use Rattle.lt_rows.specs.declared.row_plan.RowPlan.{RowPlan}
 use Rattle.lt_rows.specs.declared.view.View.{View}
 use Rattle.lt_rows.specs.Views.{IsHeld, row_at, rows_of, words_of}
 use Rattle.lt_rows.specs.Handles.{knows}
@@ -16,28 +16,28 @@ use Rattle.lt_chain.proofs.drop.take_ends.Goals as goal
 
 pub seize-requires-clause-row : goal.seize-requires-clause-row
 seize-requires-clause-row c =
-    let k : YardPlan = c.plan.result.now in
+    let k : RowPlan = c.plan.result.now in
     let tree : ℕ = c.args.tree in
     let rows : List ℕ = c.args.rows.now in
     let v : View = knows c.args.pass.now in
     let v1 : View = knows c.load_row-anchor.new.pass in
     let plan_is : (knows c.args.pass.now).plan ≡ c.plan.result.now = c.requires.of.1 ∙ sym c.plan.ensures in
-    let lt : c.args.tree < c.plan.result.now.trees = subst (λ (p : YardPlan). c.args.tree < p.trees) (sym c.plan.ensures) c.requires.tree in
+    let lt : c.args.tree < c.plan.result.now.trees = subst (λ (p : RowPlan). c.args.tree < p.trees) (sym c.plan.ensures) c.requires.tree in
     let far : Ended c.plan.result.now c.args.rows.now = chain_ended k v tree rows plan_is lt c.requires.chain c.load_row-anchor.ensures.teaches in
     let some : 0 < length c.args.rows.now = far.some in
     let out = pool_out k tree rows lt far in
     let b1 : Backs (knows c.load_row-anchor.new.pass) (c.args.tree ∷ c.args.rows.now) = backs_same v v1 (tree ∷ rows) c.load_row-anchor.ensures.same c.requires.chain.backs in
-    (subst (λ (p : YardPlan). c.plan.result.now.trees < rows_of p) c.plan.ensures (pool_row k), backs_out v1 (tree ∷ rows) b1 k.trees out)
+    (subst (λ (p : RowPlan). c.plan.result.now.trees < rows_of p) c.plan.ensures (pool_row k), backs_out v1 (tree ∷ rows) b1 k.trees out)
 
 pub put-requires-clause-settled : goal.put-requires-clause-settled
 put-requires-clause-settled c =
-    let k : YardPlan = c.plan.result.now in
+    let k : RowPlan = c.plan.result.now in
     let tree : ℕ = c.args.tree in
     let rows : List ℕ = c.args.rows.now in
     let v : View = knows c.args.pass.now in
     let v1 : View = knows c.load_row-anchor.new.pass in
     let plan_is : (knows c.args.pass.now).plan ≡ c.plan.result.now = c.requires.of.1 ∙ sym c.plan.ensures in
-    let lt : c.args.tree < c.plan.result.now.trees = subst (λ (p : YardPlan). c.args.tree < p.trees) (sym c.plan.ensures) c.requires.tree in
+    let lt : c.args.tree < c.plan.result.now.trees = subst (λ (p : RowPlan). c.args.tree < p.trees) (sym c.plan.ensures) c.requires.tree in
     let far : Ended c.plan.result.now c.args.rows.now = chain_ended k v tree rows plan_is lt c.requires.chain c.load_row-anchor.ensures.teaches in
     let some : 0 < length c.args.rows.now = far.some in
     let out = pool_out k tree rows lt far in
@@ -48,13 +48,13 @@ put-requires-clause-settled c =
 
 pub put_rows-requires-clause-backs : goal.put_rows-requires-clause-backs
 put_rows-requires-clause-backs c =
-    let k : YardPlan = c.plan.result.now in
+    let k : RowPlan = c.plan.result.now in
     let tree : ℕ = c.args.tree in
     let rows : List ℕ = c.args.rows.now in
     let v : View = knows c.args.pass.now in
     let v1 : View = knows c.load_row-anchor.new.pass in
     let plan_is : (knows c.args.pass.now).plan ≡ c.plan.result.now = c.requires.of.1 ∙ sym c.plan.ensures in
-    let lt : c.args.tree < c.plan.result.now.trees = subst (λ (p : YardPlan). c.args.tree < p.trees) (sym c.plan.ensures) c.requires.tree in
+    let lt : c.args.tree < c.plan.result.now.trees = subst (λ (p : RowPlan). c.args.tree < p.trees) (sym c.plan.ensures) c.requires.tree in
     let far : Ended c.plan.result.now c.args.rows.now = chain_ended k v tree rows plan_is lt c.requires.chain c.load_row-anchor.ensures.teaches in
     let some : 0 < length c.args.rows.now = far.some in
     let out = pool_out k tree rows lt far in
@@ -65,13 +65,13 @@ put_rows-requires-clause-backs c =
 
 pub load_row-pool-requires-clause-row : goal.load_row-pool-requires-clause-row
 load_row-pool-requires-clause-row c =
-    let k : YardPlan = c.plan.result.now in
+    let k : RowPlan = c.plan.result.now in
     let tree : ℕ = c.args.tree in
     let rows : List ℕ = c.args.rows.now in
     let v : View = knows c.args.pass.now in
     let v1 : View = knows c.load_row-anchor.new.pass in
     let plan_is : (knows c.args.pass.now).plan ≡ c.plan.result.now = c.requires.of.1 ∙ sym c.plan.ensures in
-    let lt : c.args.tree < c.plan.result.now.trees = subst (λ (p : YardPlan). c.args.tree < p.trees) (sym c.plan.ensures) c.requires.tree in
+    let lt : c.args.tree < c.plan.result.now.trees = subst (λ (p : RowPlan). c.args.tree < p.trees) (sym c.plan.ensures) c.requires.tree in
     let far : Ended c.plan.result.now c.args.rows.now = chain_ended k v tree rows plan_is lt c.requires.chain c.load_row-anchor.ensures.teaches in
     let some : 0 < length c.args.rows.now = far.some in
     let out = pool_out k tree rows lt far in
@@ -83,13 +83,13 @@ load_row-pool-requires-clause-row c =
 
 pub overflow_sub-rows : goal.overflow_sub-rows
 overflow_sub-rows c =
-    let k : YardPlan = c.plan.result.now in
+    let k : RowPlan = c.plan.result.now in
     let tree : ℕ = c.args.tree in
     let rows : List ℕ = c.args.rows.now in
     let v : View = knows c.args.pass.now in
     let v1 : View = knows c.load_row-anchor.new.pass in
     let plan_is : (knows c.args.pass.now).plan ≡ c.plan.result.now = c.requires.of.1 ∙ sym c.plan.ensures in
-    let lt : c.args.tree < c.plan.result.now.trees = subst (λ (p : YardPlan). c.args.tree < p.trees) (sym c.plan.ensures) c.requires.tree in
+    let lt : c.args.tree < c.plan.result.now.trees = subst (λ (p : RowPlan). c.args.tree < p.trees) (sym c.plan.ensures) c.requires.tree in
     let far : Ended c.plan.result.now c.args.rows.now = chain_ended k v tree rows plan_is lt c.requires.chain c.load_row-anchor.ensures.teaches in
     let some : 0 < length c.args.rows.now = far.some in
     let out = pool_out k tree rows lt far in
@@ -98,13 +98,13 @@ overflow_sub-rows c =
 
 pub bounds-rows-rows : goal.bounds-rows-rows
 bounds-rows-rows c =
-    let k : YardPlan = c.plan.result.now in
+    let k : RowPlan = c.plan.result.now in
     let tree : ℕ = c.args.tree in
     let rows : List ℕ = c.args.rows.now in
     let v : View = knows c.args.pass.now in
     let v1 : View = knows c.load_row-anchor.new.pass in
     let plan_is : (knows c.args.pass.now).plan ≡ c.plan.result.now = c.requires.of.1 ∙ sym c.plan.ensures in
-    let lt : c.args.tree < c.plan.result.now.trees = subst (λ (p : YardPlan). c.args.tree < p.trees) (sym c.plan.ensures) c.requires.tree in
+    let lt : c.args.tree < c.plan.result.now.trees = subst (λ (p : RowPlan). c.args.tree < p.trees) (sym c.plan.ensures) c.requires.tree in
     let far : Ended c.plan.result.now c.args.rows.now = chain_ended k v tree rows plan_is lt c.requires.chain c.load_row-anchor.ensures.teaches in
     let some : 0 < length c.args.rows.now = far.some in
     let out = pool_out k tree rows lt far in
@@ -113,13 +113,13 @@ bounds-rows-rows c =
 
 pub load_row-row-requires-clause-row : goal.load_row-row-requires-clause-row
 load_row-row-requires-clause-row c =
-    let k : YardPlan = c.plan.result.now in
+    let k : RowPlan = c.plan.result.now in
     let tree : ℕ = c.args.tree in
     let rows : List ℕ = c.args.rows.now in
     let v : View = knows c.args.pass.now in
     let v1 : View = knows c.load_row-anchor.new.pass in
     let plan_is : (knows c.args.pass.now).plan ≡ c.plan.result.now = c.requires.of.1 ∙ sym c.plan.ensures in
-    let lt : c.args.tree < c.plan.result.now.trees = subst (λ (p : YardPlan). c.args.tree < p.trees) (sym c.plan.ensures) c.requires.tree in
+    let lt : c.args.tree < c.plan.result.now.trees = subst (λ (p : RowPlan). c.args.tree < p.trees) (sym c.plan.ensures) c.requires.tree in
     let far : Ended c.plan.result.now c.args.rows.now = chain_ended k v tree rows plan_is lt c.requires.chain c.load_row-anchor.ensures.teaches in
     let some : 0 < length c.args.rows.now = far.some in
     let out = pool_out k tree rows lt far in
@@ -134,13 +134,13 @@ load_row-row-requires-clause-row c =
 
 pub returns-clause-kept : goal.returns-clause-kept
 returns-clause-kept c =
-    let k : YardPlan = c.plan.result.now in
+    let k : RowPlan = c.plan.result.now in
     let tree : ℕ = c.args.tree in
     let rows : List ℕ = c.args.rows.now in
     let v : View = knows c.args.pass.now in
     let v1 : View = knows c.load_row-anchor.new.pass in
     let plan_is : (knows c.args.pass.now).plan ≡ c.plan.result.now = c.requires.of.1 ∙ sym c.plan.ensures in
-    let lt : c.args.tree < c.plan.result.now.trees = subst (λ (p : YardPlan). c.args.tree < p.trees) (sym c.plan.ensures) c.requires.tree in
+    let lt : c.args.tree < c.plan.result.now.trees = subst (λ (p : RowPlan). c.args.tree < p.trees) (sym c.plan.ensures) c.requires.tree in
     let far : Ended c.plan.result.now c.args.rows.now = chain_ended k v tree rows plan_is lt c.requires.chain c.load_row-anchor.ensures.teaches in
     let some : 0 < length c.args.rows.now = far.some in
     let out = pool_out k tree rows lt far in
@@ -157,13 +157,13 @@ returns-clause-kept c =
 
 pub returns-clause-held : goal.returns-clause-held
 returns-clause-held c =
-    let k : YardPlan = c.plan.result.now in
+    let k : RowPlan = c.plan.result.now in
     let tree : ℕ = c.args.tree in
     let rows : List ℕ = c.args.rows.now in
     let v : View = knows c.args.pass.now in
     let v1 : View = knows c.load_row-anchor.new.pass in
     let plan_is : (knows c.args.pass.now).plan ≡ c.plan.result.now = c.requires.of.1 ∙ sym c.plan.ensures in
-    let lt : c.args.tree < c.plan.result.now.trees = subst (λ (p : YardPlan). c.args.tree < p.trees) (sym c.plan.ensures) c.requires.tree in
+    let lt : c.args.tree < c.plan.result.now.trees = subst (λ (p : RowPlan). c.args.tree < p.trees) (sym c.plan.ensures) c.requires.tree in
     let far : Ended c.plan.result.now c.args.rows.now = chain_ended k v tree rows plan_is lt c.requires.chain c.load_row-anchor.ensures.teaches in
     let some : 0 < length c.args.rows.now = far.some in
     let out = pool_out k tree rows lt far in
@@ -183,19 +183,19 @@ returns-clause-held c =
     let pool_words = c.load_row-pool.ensures.words.1 ∙ ap (λ (u : View). words_of (row_at u k.trees)) (sym (c.load_row-row.ensures.same ∙ c.load_row-pool.ensures.same)) in
     let row_words = c.load_row-row.ensures.words.1 ∙ ap (λ (u : View). words_of (row_at u (slice_index_or c.args.rows.now (length c.args.rows.now - 1) 0))) (sym c.load_row-row.ensures.same) in
     let anchor_words = c.load_row-anchor.ensures.words.1 ∙ ap words_of (sym (kept tree (backs_held v (tree ∷ rows) c.requires.chain.backs tree (omega arith)))) in
-    subst (λ (p : YardPlan). HasImages p (knows c.load_row-row.new.pass) c.args.tree (record { anchor = c.load_row-anchor.result; pool = c.load_row-pool.result; row = c.load_row-row.result })) c.plan.ensures
+    subst (λ (p : RowPlan). HasImages p (knows c.load_row-row.new.pass) c.args.tree (record { anchor = c.load_row-anchor.result; pool = c.load_row-pool.result; row = c.load_row-row.result })) c.plan.ensures
     (ends_held k v4 tree rows (record { anchor = c.load_row-anchor.result; pool = c.load_row-pool.result; row = c.load_row-row.result }) lt far b4
     c.load_row-anchor.ensures.words.0 c.load_row-pool.ensures.words.0 c.load_row-row.ensures.words.0 anchor_words pool_words row_words)
 
 pub returns-clause-backs : goal.returns-clause-backs
 returns-clause-backs c =
-    let k : YardPlan = c.plan.result.now in
+    let k : RowPlan = c.plan.result.now in
     let tree : ℕ = c.args.tree in
     let rows : List ℕ = c.args.rows.now in
     let v : View = knows c.args.pass.now in
     let v1 : View = knows c.load_row-anchor.new.pass in
     let plan_is : (knows c.args.pass.now).plan ≡ c.plan.result.now = c.requires.of.1 ∙ sym c.plan.ensures in
-    let lt : c.args.tree < c.plan.result.now.trees = subst (λ (p : YardPlan). c.args.tree < p.trees) (sym c.plan.ensures) c.requires.tree in
+    let lt : c.args.tree < c.plan.result.now.trees = subst (λ (p : RowPlan). c.args.tree < p.trees) (sym c.plan.ensures) c.requires.tree in
     let far : Ended c.plan.result.now c.args.rows.now = chain_ended k v tree rows plan_is lt c.requires.chain c.load_row-anchor.ensures.teaches in
     let some : 0 < length c.args.rows.now = far.some in
     let out = pool_out k tree rows lt far in
@@ -207,17 +207,17 @@ returns-clause-backs c =
     let b3 : Backs (knows c.load_row-pool.new.pass) (c.plan.result.now.trees ∷ c.args.tree ∷ c.args.rows.now) = backs_same v2 v3 (k.trees ∷ tree ∷ rows) c.load_row-pool.ensures.same b2 in
     let v4 : View = knows c.load_row-row.new.pass in
     let b4 : Backs (knows c.load_row-row.new.pass) (c.plan.result.now.trees ∷ c.args.tree ∷ c.args.rows.now) = backs_same v3 v4 (k.trees ∷ tree ∷ rows) c.load_row-row.ensures.same b3 in
-    subst (λ (p : YardPlan). Backs (knows c.load_row-row.new.pass) (p.trees ∷ c.args.tree ∷ c.args.rows.now)) c.plan.ensures b4
+    subst (λ (p : RowPlan). Backs (knows c.load_row-row.new.pass) (p.trees ∷ c.args.tree ∷ c.args.rows.now)) c.plan.ensures b4
 
 pub returns-clause-last : goal.returns-clause-last
 returns-clause-last c =
-    let k : YardPlan = c.plan.result.now in
+    let k : RowPlan = c.plan.result.now in
     let tree : ℕ = c.args.tree in
     let rows : List ℕ = c.args.rows.now in
     let v : View = knows c.args.pass.now in
     let v1 : View = knows c.load_row-anchor.new.pass in
     let plan_is : (knows c.args.pass.now).plan ≡ c.plan.result.now = c.requires.of.1 ∙ sym c.plan.ensures in
-    let lt : c.args.tree < c.plan.result.now.trees = subst (λ (p : YardPlan). c.args.tree < p.trees) (sym c.plan.ensures) c.requires.tree in
+    let lt : c.args.tree < c.plan.result.now.trees = subst (λ (p : RowPlan). c.args.tree < p.trees) (sym c.plan.ensures) c.requires.tree in
     let far : Ended c.plan.result.now c.args.rows.now = chain_ended k v tree rows plan_is lt c.requires.chain c.load_row-anchor.ensures.teaches in
     let some : 0 < length c.args.rows.now = far.some in
     let out = pool_out k tree rows lt far in

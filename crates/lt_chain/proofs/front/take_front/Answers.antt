@@ -3,7 +3,7 @@ use Rattle.std.specs.Prelude.{slice_index}
 use Rattle.lt_forest.proofs.SameRows.{one_here}
 use Rattle.lt_rows.proofs.ThreeRows.{is_left}
 use Rattle.lt_rows.specs.declared.view.View.{View}
-use Rattle.lt_seq.specs.declared.plan.YardPlan.{YardPlan}
+use Rattle.lt_rows.specs.declared.row_plan.RowPlan.{RowPlan}
 use Rattle.lt_rows.specs.Views.{IsHeld, row_at, rows_of, words_of}
 use Rattle.lt_rows.specs.Handles.{knows}
 use Rattle.lt_tree.specs.Puttings.{Backs}
@@ -15,10 +15,10 @@ use Rattle.lt_chain.proofs.front.take_front.Goals as goal
 
 pub seize-requires-clause-row : goal.seize-requires-clause-row
 seize-requires-clause-row c =
-    let k : YardPlan = c.plan.result.now in
+    let k : RowPlan = c.plan.result.now in
     let tree : ℕ = c.args.tree in
-    let lt : c.args.tree < c.plan.result.now.trees = subst (λ (p : YardPlan). c.args.tree < p.trees) (sym c.plan.ensures) c.requires.tree in
-    (subst (λ (p : YardPlan). c.plan.result.now.trees < rows_of p) c.plan.ensures (pool_row k), backs_out (knows c.args.pass.now) (tree ∷ []) c.requires.anchor k.trees (pool_apart k tree (suc k.trees) lt (omega arith)))
+    let lt : c.args.tree < c.plan.result.now.trees = subst (λ (p : RowPlan). c.args.tree < p.trees) (sym c.plan.ensures) c.requires.tree in
+    (subst (λ (p : RowPlan). c.plan.result.now.trees < rows_of p) c.plan.ensures (pool_row k), backs_out (knows c.args.pass.now) (tree ∷ []) c.requires.anchor k.trees (pool_apart k tree (suc k.trees) lt (omega arith)))
 
 pub put-requires-clause-settled : goal.put-requires-clause-settled
 put-requires-clause-settled c =
@@ -33,9 +33,9 @@ returns-in-HeldBy-clause-none c =
 
 pub load_row-pool-requires-clause-row : goal.load_row-pool-requires-clause-row
 load_row-pool-requires-clause-row c =
-    let k : YardPlan = c.plan.result.now in
+    let k : RowPlan = c.plan.result.now in
     let tree : ℕ = c.args.tree in
-    let lt : c.args.tree < c.plan.result.now.trees = subst (λ (p : YardPlan). c.args.tree < p.trees) (sym c.plan.ensures) c.requires.tree in
+    let lt : c.args.tree < c.plan.result.now.trees = subst (λ (p : RowPlan). c.args.tree < p.trees) (sym c.plan.ensures) c.requires.tree in
     let b1 : Backs (knows c.seize.new.pass) (k.trees ∷ tree ∷ []) = backs_taken k.trees (knows c.args.pass.now) (knows c.seize.new.pass) (tree ∷ []) c.in-Taken.ensures.seized (pool_apart k tree (suc k.trees) lt (omega arith)) c.requires.anchor in
     let p = one_here c.plan.result.now.trees in
     let a = one_here c.args.tree in
@@ -43,9 +43,9 @@ load_row-pool-requires-clause-row c =
 
 pub overflow_sub-first : goal.overflow_sub-first
 overflow_sub-first c =
-    let k : YardPlan = c.plan.result.now in
+    let k : RowPlan = c.plan.result.now in
     let tree : ℕ = c.args.tree in
-    let lt : c.args.tree < c.plan.result.now.trees = subst (λ (p : YardPlan). c.args.tree < p.trees) (sym c.plan.ensures) c.requires.tree in
+    let lt : c.args.tree < c.plan.result.now.trees = subst (λ (p : RowPlan). c.args.tree < p.trees) (sym c.plan.ensures) c.requires.tree in
     let b1 : Backs (knows c.seize.new.pass) (k.trees ∷ tree ∷ []) = backs_taken k.trees (knows c.args.pass.now) (knows c.seize.new.pass) (tree ∷ []) c.in-Taken.ensures.seized (pool_apart k tree (suc k.trees) lt (omega arith)) c.requires.anchor in
     let p = one_here c.plan.result.now.trees in
     let a = one_here c.args.tree in
@@ -61,9 +61,9 @@ overflow_sub-first c =
 
 pub overflow_cast-first : goal.overflow_cast-first
 overflow_cast-first c =
-    let k : YardPlan = c.plan.result.now in
+    let k : RowPlan = c.plan.result.now in
     let tree : ℕ = c.args.tree in
-    let lt : c.args.tree < c.plan.result.now.trees = subst (λ (p : YardPlan). c.args.tree < p.trees) (sym c.plan.ensures) c.requires.tree in
+    let lt : c.args.tree < c.plan.result.now.trees = subst (λ (p : RowPlan). c.args.tree < p.trees) (sym c.plan.ensures) c.requires.tree in
     let b1 : Backs (knows c.seize.new.pass) (k.trees ∷ tree ∷ []) = backs_taken k.trees (knows c.args.pass.now) (knows c.seize.new.pass) (tree ∷ []) c.in-Taken.ensures.seized (pool_apart k tree (suc k.trees) lt (omega arith)) c.requires.anchor in
     let p = one_here c.plan.result.now.trees in
     let a = one_here c.args.tree in
@@ -75,14 +75,14 @@ overflow_cast-first c =
     let some : c.left.result ≢ 0 = far.0 in
     let further : c.plan.result.now.trees < c.left.result - 1 = far.1 in
     let inside : c.left.result - 1 < rows_of c.plan.result.now = far.2 in
-    let few : rows_of c.plan.result.now < 4294967296 = subst (λ (p : YardPlan). rows_of p < 4294967296) (sym c.plan.ensures) c.args.table.now.sized.0.3 in
+    let few : rows_of c.plan.result.now < 4294967296 = subst (λ (p : RowPlan). rows_of p < 4294967296) (sym c.plan.ensures) c.args.table.now.sized.0.3 in
     (omega arith)
 
 pub seize-requires-2-clause-row : goal.seize-requires-2-clause-row
 seize-requires-2-clause-row c =
-    let k : YardPlan = c.plan.result.now in
+    let k : RowPlan = c.plan.result.now in
     let tree : ℕ = c.args.tree in
-    let lt : c.args.tree < c.plan.result.now.trees = subst (λ (p : YardPlan). c.args.tree < p.trees) (sym c.plan.ensures) c.requires.tree in
+    let lt : c.args.tree < c.plan.result.now.trees = subst (λ (p : RowPlan). c.args.tree < p.trees) (sym c.plan.ensures) c.requires.tree in
     let b1 : Backs (knows c.seize.new.pass) (k.trees ∷ tree ∷ []) = backs_taken k.trees (knows c.args.pass.now) (knows c.seize.new.pass) (tree ∷ []) c.in-Taken.ensures.seized (pool_apart k tree (suc k.trees) lt (omega arith)) c.requires.anchor in
     let p = one_here c.plan.result.now.trees in
     let a = one_here c.args.tree in
@@ -94,13 +94,13 @@ seize-requires-2-clause-row c =
     let some : c.left.result ≢ 0 = far.0 in
     let further : c.plan.result.now.trees < c.left.result - 1 = far.1 in
     let inside : c.left.result - 1 < rows_of c.plan.result.now = far.2 in
-    (subst (λ (p : YardPlan). c.left.result - 1 < rows_of p) c.plan.ensures inside, backs_out (knows c.load_row-pool.new.pass) (k.trees ∷ tree ∷ []) b2 first (first_apart k tree first lt further))
+    (subst (λ (p : RowPlan). c.left.result - 1 < rows_of p) c.plan.ensures inside, backs_out (knows c.load_row-pool.new.pass) (k.trees ∷ tree ∷ []) b2 first (first_apart k tree first lt further))
 
 pub put-requires-in-HeldBy-try_take-clause-settled : goal.put-requires-in-HeldBy-try_take-clause-settled
 put-requires-in-HeldBy-try_take-clause-settled c =
-    let k : YardPlan = c.plan.result.now in
+    let k : RowPlan = c.plan.result.now in
     let tree : ℕ = c.args.tree in
-    let lt : c.args.tree < c.plan.result.now.trees = subst (λ (p : YardPlan). c.args.tree < p.trees) (sym c.plan.ensures) c.requires.tree in
+    let lt : c.args.tree < c.plan.result.now.trees = subst (λ (p : RowPlan). c.args.tree < p.trees) (sym c.plan.ensures) c.requires.tree in
     let b1 : Backs (knows c.seize.new.pass) (k.trees ∷ tree ∷ []) = backs_taken k.trees (knows c.args.pass.now) (knows c.seize.new.pass) (tree ∷ []) c.in-Taken.ensures.seized (pool_apart k tree (suc k.trees) lt (omega arith)) c.requires.anchor in
     let p = one_here c.plan.result.now.trees in
     let a = one_here c.args.tree in
@@ -117,9 +117,9 @@ put-requires-in-HeldBy-try_take-clause-settled c =
 
 pub put-requires-in-HeldBy-try_take-2-clause-settled : goal.put-requires-in-HeldBy-try_take-2-clause-settled
 put-requires-in-HeldBy-try_take-2-clause-settled c =
-    let k : YardPlan = c.plan.result.now in
+    let k : RowPlan = c.plan.result.now in
     let tree : ℕ = c.args.tree in
-    let lt : c.args.tree < c.plan.result.now.trees = subst (λ (p : YardPlan). c.args.tree < p.trees) (sym c.plan.ensures) c.requires.tree in
+    let lt : c.args.tree < c.plan.result.now.trees = subst (λ (p : RowPlan). c.args.tree < p.trees) (sym c.plan.ensures) c.requires.tree in
     let b1 : Backs (knows c.seize.new.pass) (k.trees ∷ tree ∷ []) = backs_taken k.trees (knows c.args.pass.now) (knows c.seize.new.pass) (tree ∷ []) c.in-Taken.ensures.seized (pool_apart k tree (suc k.trees) lt (omega arith)) c.requires.anchor in
     let p = one_here c.plan.result.now.trees in
     let a = one_here c.args.tree in
@@ -137,9 +137,9 @@ put-requires-in-HeldBy-try_take-2-clause-settled c =
 
 pub returns-in-HeldBy-try_take-clause-none : goal.returns-in-HeldBy-try_take-clause-none
 returns-in-HeldBy-try_take-clause-none c =
-    let k : YardPlan = c.plan.result.now in
+    let k : RowPlan = c.plan.result.now in
     let tree : ℕ = c.args.tree in
-    let lt : c.args.tree < c.plan.result.now.trees = subst (λ (p : YardPlan). c.args.tree < p.trees) (sym c.plan.ensures) c.requires.tree in
+    let lt : c.args.tree < c.plan.result.now.trees = subst (λ (p : RowPlan). c.args.tree < p.trees) (sym c.plan.ensures) c.requires.tree in
     let b1 : Backs (knows c.seize.new.pass) (k.trees ∷ tree ∷ []) = backs_taken k.trees (knows c.args.pass.now) (knows c.seize.new.pass) (tree ∷ []) c.in-Taken.ensures.seized (pool_apart k tree (suc k.trees) lt (omega arith)) c.requires.anchor in
     let p = one_here c.plan.result.now.trees in
     let a = one_here c.args.tree in
@@ -157,9 +157,9 @@ returns-in-HeldBy-try_take-clause-none c =
 
 pub load_row-anchor-requires-clause-row : goal.load_row-anchor-requires-clause-row
 load_row-anchor-requires-clause-row c =
-    let k : YardPlan = c.plan.result.now in
+    let k : RowPlan = c.plan.result.now in
     let tree : ℕ = c.args.tree in
-    let lt : c.args.tree < c.plan.result.now.trees = subst (λ (p : YardPlan). c.args.tree < p.trees) (sym c.plan.ensures) c.requires.tree in
+    let lt : c.args.tree < c.plan.result.now.trees = subst (λ (p : RowPlan). c.args.tree < p.trees) (sym c.plan.ensures) c.requires.tree in
     let b1 : Backs (knows c.seize.new.pass) (k.trees ∷ tree ∷ []) = backs_taken k.trees (knows c.args.pass.now) (knows c.seize.new.pass) (tree ∷ []) c.in-Taken.ensures.seized (pool_apart k tree (suc k.trees) lt (omega arith)) c.requires.anchor in
     let p = one_here c.plan.result.now.trees in
     let a = one_here c.args.tree in
@@ -178,9 +178,9 @@ load_row-anchor-requires-clause-row c =
 
 pub load_row-row-requires-clause-row : goal.load_row-row-requires-clause-row
 load_row-row-requires-clause-row c =
-    let k : YardPlan = c.plan.result.now in
+    let k : RowPlan = c.plan.result.now in
     let tree : ℕ = c.args.tree in
-    let lt : c.args.tree < c.plan.result.now.trees = subst (λ (p : YardPlan). c.args.tree < p.trees) (sym c.plan.ensures) c.requires.tree in
+    let lt : c.args.tree < c.plan.result.now.trees = subst (λ (p : RowPlan). c.args.tree < p.trees) (sym c.plan.ensures) c.requires.tree in
     let b1 : Backs (knows c.seize.new.pass) (k.trees ∷ tree ∷ []) = backs_taken k.trees (knows c.args.pass.now) (knows c.seize.new.pass) (tree ∷ []) c.in-Taken.ensures.seized (pool_apart k tree (suc k.trees) lt (omega arith)) c.requires.anchor in
     let p = one_here c.plan.result.now.trees in
     let a = one_here c.args.tree in
@@ -200,9 +200,9 @@ load_row-row-requires-clause-row c =
 
 pub returns-clause-kept : goal.returns-clause-kept
 returns-clause-kept c =
-    let k : YardPlan = c.plan.result.now in
+    let k : RowPlan = c.plan.result.now in
     let tree : ℕ = c.args.tree in
-    let lt : c.args.tree < c.plan.result.now.trees = subst (λ (p : YardPlan). c.args.tree < p.trees) (sym c.plan.ensures) c.requires.tree in
+    let lt : c.args.tree < c.plan.result.now.trees = subst (λ (p : RowPlan). c.args.tree < p.trees) (sym c.plan.ensures) c.requires.tree in
     let b1 : Backs (knows c.seize.new.pass) (k.trees ∷ tree ∷ []) = backs_taken k.trees (knows c.args.pass.now) (knows c.seize.new.pass) (tree ∷ []) c.in-Taken.ensures.seized (pool_apart k tree (suc k.trees) lt (omega arith)) c.requires.anchor in
     let p = one_here c.plan.result.now.trees in
     let a = one_here c.args.tree in
@@ -226,9 +226,9 @@ returns-clause-kept c =
 
 pub returns-clause-held : goal.returns-clause-held
 returns-clause-held c =
-    let k : YardPlan = c.plan.result.now in
+    let k : RowPlan = c.plan.result.now in
     let tree : ℕ = c.args.tree in
-    let lt : c.args.tree < c.plan.result.now.trees = subst (λ (p : YardPlan). c.args.tree < p.trees) (sym c.plan.ensures) c.requires.tree in
+    let lt : c.args.tree < c.plan.result.now.trees = subst (λ (p : RowPlan). c.args.tree < p.trees) (sym c.plan.ensures) c.requires.tree in
     let b1 : Backs (knows c.seize.new.pass) (k.trees ∷ tree ∷ []) = backs_taken k.trees (knows c.args.pass.now) (knows c.seize.new.pass) (tree ∷ []) c.in-Taken.ensures.seized (pool_apart k tree (suc k.trees) lt (omega arith)) c.requires.anchor in
     let p = one_here c.plan.result.now.trees in
     let a = one_here c.args.tree in
@@ -249,15 +249,15 @@ returns-clause-held c =
     let h = three_held k tree first lt further (knows c.load_row-pool.new.pass) (knows c.seize-2.new.pass)
     (record { anchor = c.load_row-anchor.result; pool = c.load_row-pool.result; row = c.load_row-row.result }) s3 b2
     c.load_row-anchor.ensures.words.0 c.load_row-pool.ensures.words.0 c.load_row-row.ensures.words.0 words2 c.load_row-anchor.ensures.words.1 words5 in
-    subst (λ (x : YardPlan × View). HasImages x.0 x.1 c.args.tree (record { anchor = c.load_row-anchor.result; pool = c.load_row-pool.result; row = c.load_row-row.result })
+    subst (λ (x : RowPlan × View). HasImages x.0 x.1 c.args.tree (record { anchor = c.load_row-anchor.result; pool = c.load_row-pool.result; row = c.load_row-row.result })
     × HoldsThree x.1 (record { anchor = c.load_row-anchor.result; pool = c.load_row-pool.result; row = c.load_row-row.result }))
     (λ j. (c.plan.ensures j, sym (c.load_row-row.ensures.same ∙ c.load_row-anchor.ensures.same) j)) h
 
 pub returns-clause-first : goal.returns-clause-first
 returns-clause-first c =
-    let k : YardPlan = c.plan.result.now in
+    let k : RowPlan = c.plan.result.now in
     let tree : ℕ = c.args.tree in
-    let lt : c.args.tree < c.plan.result.now.trees = subst (λ (p : YardPlan). c.args.tree < p.trees) (sym c.plan.ensures) c.requires.tree in
+    let lt : c.args.tree < c.plan.result.now.trees = subst (λ (p : RowPlan). c.args.tree < p.trees) (sym c.plan.ensures) c.requires.tree in
     let b1 : Backs (knows c.seize.new.pass) (k.trees ∷ tree ∷ []) = backs_taken k.trees (knows c.args.pass.now) (knows c.seize.new.pass) (tree ∷ []) c.in-Taken.ensures.seized (pool_apart k tree (suc k.trees) lt (omega arith)) c.requires.anchor in
     let p = one_here c.plan.result.now.trees in
     let a = one_here c.args.tree in

@@ -1,6 +1,6 @@
 use Rattle.std.proofs.Common.{rules, arith, ◌++◌, ℕ, ◌≡◌, ◌≢◌, ◌+◌, ◌-◌, ◌<◌, List, [], ◌∷◌, sym, ap, ◌∙◌, subst}
 use Rattle.lt_forest.proofs.SameRows.{one_here}
-use Rattle.lt_seq.specs.declared.plan.YardPlan.{YardPlan}
+use Rattle.lt_rows.specs.declared.row_plan.RowPlan.{RowPlan}
 use Rattle.lt_rows.specs.declared.view.View.{View}
 use Rattle.lt_rows.specs.Views.{rows_of}
 use Rattle.lt_rows.specs.Handles.{knows}
@@ -23,9 +23,9 @@ overflow_cast-row c =
     let ne : c.loop-link.link ≢ 0 = c.loop-link-test.true in
     let link_is : c.loop-link.link ≡ (c.loop-link.link - 1) + 1 = omega arith in
     let w : Walks (knows c.loop-link.pass) c.args.tree i.4.0 i.4.1 c.loop-link.rows.items ((c.loop-link.link - 1) + 1) = subst (Walks (knows c.loop-link.pass) c.args.tree i.4.0 i.4.1 c.loop-link.rows.items) link_is i.4.2 in
-    let lt : c.args.tree < (knows c.loop-link.pass).plan.trees = subst (λ (p : YardPlan). c.args.tree < p.trees) (sym i.0.1) c.requires.tree in
+    let lt : c.args.tree < (knows c.loop-link.pass).plan.trees = subst (λ (p : RowPlan). c.args.tree < p.trees) (sym i.0.1) c.requires.tree in
     let next = next_row v tree i.4.0 i.4.1 r rows w lt in
-    let inside : c.loop-link.link - 1 < rows_of c.args.table.now.plan = subst (λ (p : YardPlan). c.loop-link.link - 1 < rows_of p) i.0.1 next.1 in
+    let inside : c.loop-link.link - 1 < rows_of c.args.table.now.plan = subst (λ (p : RowPlan). c.loop-link.link - 1 < rows_of p) i.0.1 next.1 in
     let few = c.args.table.now.sized.0.3 in
     (omega arith)
 
@@ -39,9 +39,9 @@ seize-requires-clause-row c =
     let ne : c.loop-link.link ≢ 0 = c.loop-link-test.true in
     let link_is : c.loop-link.link ≡ (c.loop-link.link - 1) + 1 = omega arith in
     let w : Walks (knows c.loop-link.pass) c.args.tree i.4.0 i.4.1 c.loop-link.rows.items ((c.loop-link.link - 1) + 1) = subst (Walks (knows c.loop-link.pass) c.args.tree i.4.0 i.4.1 c.loop-link.rows.items) link_is i.4.2 in
-    let lt : c.args.tree < (knows c.loop-link.pass).plan.trees = subst (λ (p : YardPlan). c.args.tree < p.trees) (sym i.0.1) c.requires.tree in
+    let lt : c.args.tree < (knows c.loop-link.pass).plan.trees = subst (λ (p : RowPlan). c.args.tree < p.trees) (sym i.0.1) c.requires.tree in
     let next = next_row v tree i.4.0 i.4.1 r rows w lt in
-    let inside : c.loop-link.link - 1 < rows_of c.args.table.now.plan = subst (λ (p : YardPlan). c.loop-link.link - 1 < rows_of p) i.0.1 next.1 in
+    let inside : c.loop-link.link - 1 < rows_of c.args.table.now.plan = subst (λ (p : RowPlan). c.loop-link.link - 1 < rows_of p) i.0.1 next.1 in
     (inside, backs_out v (tree ∷ rows) w.backs r next.2)
 
 pub put-requires-clause-settled : goal.put-requires-clause-settled
@@ -54,9 +54,9 @@ put-requires-clause-settled c =
     let ne : c.loop-link.link ≢ 0 = c.loop-link-test.true in
     let link_is : c.loop-link.link ≡ (c.loop-link.link - 1) + 1 = omega arith in
     let w : Walks (knows c.loop-link.pass) c.args.tree i.4.0 i.4.1 c.loop-link.rows.items ((c.loop-link.link - 1) + 1) = subst (Walks (knows c.loop-link.pass) c.args.tree i.4.0 i.4.1 c.loop-link.rows.items) link_is i.4.2 in
-    let lt : c.args.tree < (knows c.loop-link.pass).plan.trees = subst (λ (p : YardPlan). c.args.tree < p.trees) (sym i.0.1) c.requires.tree in
+    let lt : c.args.tree < (knows c.loop-link.pass).plan.trees = subst (λ (p : RowPlan). c.args.tree < p.trees) (sym i.0.1) c.requires.tree in
     let next = next_row v tree i.4.0 i.4.1 r rows w lt in
-    let inside : c.loop-link.link - 1 < rows_of c.args.table.now.plan = subst (λ (p : YardPlan). c.loop-link.link - 1 < rows_of p) i.0.1 next.1 in
+    let inside : c.loop-link.link - 1 < rows_of c.args.table.now.plan = subst (λ (p : RowPlan). c.loop-link.link - 1 < rows_of p) i.0.1 next.1 in
     let u : View = knows c.seize.new.pass in
     let s = c.in-Taken.ensures.seized in
     let one = one_here (c.loop-link.link - 1) in
@@ -72,9 +72,9 @@ returns-then-is_err-clause-backs c =
     let ne : c.loop-link.link ≢ 0 = c.loop-link-test.true in
     let link_is : c.loop-link.link ≡ (c.loop-link.link - 1) + 1 = omega arith in
     let w : Walks (knows c.loop-link.pass) c.args.tree i.4.0 i.4.1 c.loop-link.rows.items ((c.loop-link.link - 1) + 1) = subst (Walks (knows c.loop-link.pass) c.args.tree i.4.0 i.4.1 c.loop-link.rows.items) link_is i.4.2 in
-    let lt : c.args.tree < (knows c.loop-link.pass).plan.trees = subst (λ (p : YardPlan). c.args.tree < p.trees) (sym i.0.1) c.requires.tree in
+    let lt : c.args.tree < (knows c.loop-link.pass).plan.trees = subst (λ (p : RowPlan). c.args.tree < p.trees) (sym i.0.1) c.requires.tree in
     let next = next_row v tree i.4.0 i.4.1 r rows w lt in
-    let inside : c.loop-link.link - 1 < rows_of c.args.table.now.plan = subst (λ (p : YardPlan). c.loop-link.link - 1 < rows_of p) i.0.1 next.1 in
+    let inside : c.loop-link.link - 1 < rows_of c.args.table.now.plan = subst (λ (p : RowPlan). c.loop-link.link - 1 < rows_of p) i.0.1 next.1 in
     let u : View = knows c.seize.new.pass in
     let s = c.in-Taken.ensures.seized in
     let one = one_here (c.loop-link.link - 1) in
@@ -92,9 +92,9 @@ load_row-requires-in-loop-link-clause-row c =
     let ne : c.loop-link.link ≢ 0 = c.loop-link-test.true in
     let link_is : c.loop-link.link ≡ (c.loop-link.link - 1) + 1 = omega arith in
     let w : Walks (knows c.loop-link.pass) c.args.tree i.4.0 i.4.1 c.loop-link.rows.items ((c.loop-link.link - 1) + 1) = subst (Walks (knows c.loop-link.pass) c.args.tree i.4.0 i.4.1 c.loop-link.rows.items) link_is i.4.2 in
-    let lt : c.args.tree < (knows c.loop-link.pass).plan.trees = subst (λ (p : YardPlan). c.args.tree < p.trees) (sym i.0.1) c.requires.tree in
+    let lt : c.args.tree < (knows c.loop-link.pass).plan.trees = subst (λ (p : RowPlan). c.args.tree < p.trees) (sym i.0.1) c.requires.tree in
     let next = next_row v tree i.4.0 i.4.1 r rows w lt in
-    let inside : c.loop-link.link - 1 < rows_of c.args.table.now.plan = subst (λ (p : YardPlan). c.loop-link.link - 1 < rows_of p) i.0.1 next.1 in
+    let inside : c.loop-link.link - 1 < rows_of c.args.table.now.plan = subst (λ (p : RowPlan). c.loop-link.link - 1 < rows_of p) i.0.1 next.1 in
     let u : View = knows c.seize.new.pass in
     let s = c.in-Taken.ensures.seized in
     let one = one_here (c.loop-link.link - 1) in
@@ -110,9 +110,9 @@ loop-link-smaller c =
     let ne : c.loop-link.link ≢ 0 = c.loop-link-test.true in
     let link_is : c.loop-link.link ≡ (c.loop-link.link - 1) + 1 = omega arith in
     let w : Walks (knows c.loop-link.pass) c.args.tree i.4.0 i.4.1 c.loop-link.rows.items ((c.loop-link.link - 1) + 1) = subst (Walks (knows c.loop-link.pass) c.args.tree i.4.0 i.4.1 c.loop-link.rows.items) link_is i.4.2 in
-    let lt : c.args.tree < (knows c.loop-link.pass).plan.trees = subst (λ (p : YardPlan). c.args.tree < p.trees) (sym i.0.1) c.requires.tree in
+    let lt : c.args.tree < (knows c.loop-link.pass).plan.trees = subst (λ (p : RowPlan). c.args.tree < p.trees) (sym i.0.1) c.requires.tree in
     let next = next_row v tree i.4.0 i.4.1 r rows w lt in
-    let inside : c.loop-link.link - 1 < rows_of c.args.table.now.plan = subst (λ (p : YardPlan). c.loop-link.link - 1 < rows_of p) i.0.1 next.1 in
+    let inside : c.loop-link.link - 1 < rows_of c.args.table.now.plan = subst (λ (p : RowPlan). c.loop-link.link - 1 < rows_of p) i.0.1 next.1 in
     let u : View = knows c.seize.new.pass in
     let s = c.in-Taken.ensures.seized in
     let one = one_here (c.loop-link.link - 1) in
@@ -130,9 +130,9 @@ loop-link-preserved c =
     let ne : c.loop-link.link ≢ 0 = c.loop-link-test.true in
     let link_is : c.loop-link.link ≡ (c.loop-link.link - 1) + 1 = omega arith in
     let w : Walks (knows c.loop-link.pass) c.args.tree i.4.0 i.4.1 c.loop-link.rows.items ((c.loop-link.link - 1) + 1) = subst (Walks (knows c.loop-link.pass) c.args.tree i.4.0 i.4.1 c.loop-link.rows.items) link_is i.4.2 in
-    let lt : c.args.tree < (knows c.loop-link.pass).plan.trees = subst (λ (p : YardPlan). c.args.tree < p.trees) (sym i.0.1) c.requires.tree in
+    let lt : c.args.tree < (knows c.loop-link.pass).plan.trees = subst (λ (p : RowPlan). c.args.tree < p.trees) (sym i.0.1) c.requires.tree in
     let next = next_row v tree i.4.0 i.4.1 r rows w lt in
-    let inside : c.loop-link.link - 1 < rows_of c.args.table.now.plan = subst (λ (p : YardPlan). c.loop-link.link - 1 < rows_of p) i.0.1 next.1 in
+    let inside : c.loop-link.link - 1 < rows_of c.args.table.now.plan = subst (λ (p : RowPlan). c.loop-link.link - 1 < rows_of p) i.0.1 next.1 in
     let u : View = knows c.seize.new.pass in
     let s = c.in-Taken.ensures.seized in
     let one = one_here (c.loop-link.link - 1) in

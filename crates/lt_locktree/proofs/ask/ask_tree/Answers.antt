@@ -1,5 +1,5 @@
 use Rattle.std.proofs.Common.{◌≡◌, ◌<◌, [], sym, subst, ◌∙◌}
-use Rattle.lt_seq.specs.declared.plan.YardPlan.{YardPlan}
+use Rattle.lt_rows.specs.declared.row_plan.RowPlan.{RowPlan}
 use Rattle.lt_rows.specs.declared.view.View.{View}
 use Rattle.lt_rows.specs.Handles.{knows}
 use Rattle.lt_tree.proofs.SeenLaws.{seen_plan, seen_then, refused_seen}
@@ -13,11 +13,11 @@ ask_in_tree-requires-clause-unbuffered c =
     let ready = c.in-Ok.ensures in
     let u : View = knows c.args.prepared.pass in
     let v : View = knows l.pass in
-    let here : l.tree < v.plan.trees = subst (λ (p : YardPlan). l.tree < p.trees) (sym l.of.0.1) l.of.2 in
+    let here : l.tree < v.plan.trees = subst (λ (p : RowPlan). l.tree < p.trees) (sym l.of.0.1) l.of.2 in
     let plan : v.plan ≡ u.plan = seen_plan u v ready.same.1 in
     none_begins v l.tree l.asked l.held l.part.rows.items l.part.hangs.items [] ready.locked here ready.closed c.args.prepared.image.words
     c.args.asking.now.txn (λ at. ready.anchor (at ∙ ready.kept.1))
-    (subst (λ (p : YardPlan). BeginsNone p.buffer c.args.prepared.image.words) (sym plan) c.requires.begins_none)
+    (subst (λ (p : RowPlan). BeginsNone p.buffer c.args.prepared.image.words) (sym plan) c.requires.begins_none)
 
 pub returns-in-Ok-ask_in_tree-clause-made : goal.returns-in-Ok-ask_in_tree-clause-made
 returns-in-Ok-ask_in_tree-clause-made c =

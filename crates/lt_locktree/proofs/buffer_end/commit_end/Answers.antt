@@ -1,7 +1,7 @@
 use Rattle.std.proofs.Common.{rules, ◌≡◌, ◌<◌, ◌++◌, ◌∷◌, ◌∙◌, ℕ, ℤ, w64, FitsSigned, length, sym, ap, subst}
 use Rattle.std.specs.Prelude.{pos, ◌+ℤ◌}
 use Rattle.std.proofs.lemmas.Int.{to_z-of_z}
-use Rattle.lt_seq.specs.declared.plan.YardPlan.{YardPlan}
+use Rattle.lt_rows.specs.declared.row_plan.RowPlan.{RowPlan}
 use Rattle.lt_rows.specs.Handles.{knows}
 use Rattle.lt_rows.specs.Lawful.{IsCommit}
 use Rattle.lt_rows.specs.Views.{AllHeld}
@@ -27,11 +27,11 @@ commit-place-requires-clause-lawful c =
     let plan = c.requires.of.1 in
     let len : c.len.result ≡ length c.args.chain.items = c.len.ensures ∙ (search rules) in
     let fits : FitsSigned w64 c.change_of-change.result = record { sfits = c.change_of-change.type_inv } in
-    subst (λ (x : YardPlan × ℤ). IsCommit x.0 (knows c.args.pass.now) c.args.event.now c.args.plan.now x.1)
+    subst (λ (x : RowPlan × ℤ). IsCommit x.0 (knows c.args.pass.now) c.args.event.now c.args.plan.now x.1)
     (λ j. (plan j, sym (to_z-of_z w64 c.change_of-change.result fits) j))
     (end_commits (knows c.args.pass.now) c.args.tree e.0 e.1 c.args.chain.items c.args._score c.args.pairs.now c.args.event.now
     c.args.plan.now e.2
-    c.requires.lays c.change_of-change.result (subst (λ (p : YardPlan). c.args.tree < p.trees) (sym plan) c.requires.tree)
+    c.requires.lays c.change_of-change.result (subst (λ (p : RowPlan). c.args.tree < p.trees) (sym plan) c.requires.tree)
     (ap (λ (n : ℕ). c.change_of-change.result +ℤ pos n) (sym len) ∙ c.change_of-change.ensures) c.requires.licensed)
 
 pub write_all-requires-clause-held : goal.write_all-requires-clause-held

@@ -1,5 +1,5 @@
 use Rattle.std.proofs.Common.{◌<◌, ◌++◌, ℕ, List, length, sym, subst}
-use Rattle.lt_seq.specs.declared.plan.YardPlan.{YardPlan}
+use Rattle.lt_rows.specs.declared.row_plan.RowPlan.{RowPlan}
 use Rattle.lt_rows.specs.declared.image.RowImage.{RowImage}
 use Rattle.lt_rows.specs.declared.view.View.{View}
 use Rattle.lt_rows.specs.Handles.{knows}
@@ -25,7 +25,7 @@ pub commit_end-requires-clause-lays : goal.commit_end-requires-clause-lays
 commit_end-requires-clause-lays c =
     let a = c.args.asking.now in
     let v : View = knows c.take_ends.new.pass in
-    let lt = subst (λ (p : YardPlan). a.tree < p.trees) (sym c.in-Ok.ensures.of.0.1) c.requires.tree in
+    let lt = subst (λ (p : RowPlan). a.tree < p.trees) (sym c.in-Ok.ensures.of.0.1) c.requires.tree in
     subst (λ (plan : List RowImage). LaysPairs v plan a.tree c.args.score c.args.chain.items c.args.pairs.now)
     (sym c.deref-in-Ok-plan_end.ensures.value)
     (lays_pairs v a.tree c.args.score a.range c.args.chain.items c.args.pairs.now c.in-Ok-plan_end.plan.items c.in-Ok.ends lt

@@ -1,5 +1,5 @@
 use Rattle.std.proofs.Common.{rules, ◌≡◌, ◌<◌, ◌+◌, ◌∷◌, ◌∙◌, ℕ, length, sym, ap, subst, arith}
-use Rattle.lt_seq.specs.declared.plan.YardPlan.{YardPlan}
+use Rattle.lt_rows.specs.declared.row_plan.RowPlan.{RowPlan}
 use Rattle.lt_rows.specs.declared.take.Take.TheVariants.{Taken}
 use Rattle.lt_rows.specs.declared.view.View.{View}
 use Rattle.lt_rows.specs.Handles.{knows}
@@ -14,10 +14,10 @@ use Rattle.lt_locktree.proofs.buffer_rows.take_ends.Goals as goal
 use Rattle.lt_locktree.proofs.buffer_rows.take_ends.Goals.{After-load_row-pool, After-plan}
 
 trees_are : (c : After-plan) → c.plan.result.now.trees ≡ (knows c.args.pass.now).plan.trees
-trees_are c = ap (λ (p : YardPlan). p.trees) (c.plan.ensures ∙ sym c.requires.of.1)
+trees_are c = ap (λ (p : RowPlan). p.trees) (c.plan.ensures ∙ sym c.requires.of.1)
 
 inside : (c : After-plan) → c.args.tree < (knows c.args.pass.now).plan.trees
-inside c = subst (λ (p : YardPlan). c.args.tree < p.trees) (sym c.requires.of.1) c.requires.tree
+inside c = subst (λ (p : RowPlan). c.args.tree < p.trees) (sym c.requires.of.1) c.requires.tree
 
 loaded : (c : After-plan) → IsLoaded (knows c.args.pass.now) c.args.tree c.load_row-anchor.result
 loaded c = let long : length c.load_row-anchor.result.words ≡ 21 = search rules in
@@ -27,7 +27,7 @@ pub seize-requires-clause-row : goal.seize-requires-clause-row
 seize-requires-clause-row c =
     let at = (goal.at.seize-requires-clause-row c).After-plan in
     let v : View = knows c.args.pass.now in (
-      subst (λ (p : YardPlan). p.trees < rows_of c.args.table.now.plan) (sym c.plan.ensures) (pool_inside c.args.table.now.plan),
+      subst (λ (p : RowPlan). p.trees < rows_of c.args.table.now.plan) (sym c.plan.ensures) (pool_inside c.args.table.now.plan),
       (λ j. row_at (c.load_row-anchor.ensures.same j) (trees_are at j))
           ∙ not_held v (c.args.tree ∷ c.args.rows.now) c.requires.chain.backs v.plan.trees
           (pool_apart v c.args.tree c.args.rows.now (inside at) c.requires.chain c.load_row-anchor.ensures.teaches),

@@ -1,5 +1,5 @@
 use Rattle.std.proofs.Common.{rules, ◌≡◌, ◌<◌, ◌-◌, ◌∷◌, ◌∙◌, ℕ, length, sym, subst, arith}
-use Rattle.lt_seq.specs.declared.plan.YardPlan.{YardPlan}
+use Rattle.lt_rows.specs.declared.row_plan.RowPlan.{RowPlan}
 use Rattle.lt_forest.specs.Counts.{times}
 use Rattle.lt_rows.specs.declared.view.View.{View}
 use Rattle.lt_rows.specs.Handles.{knows}
@@ -17,9 +17,9 @@ found : (c : After-left)
 found c =
     let v : View = knows c.args.pass.now in
     let same : c.args.table.now.plan ≡ v.plan = sym c.requires.of.1 in
-    is_first v c.args._tree c.args._rows.now c.args.pool.now (subst (λ (p : YardPlan). c.args._tree < p.trees) same c.requires.tree)
+    is_first v c.args._tree c.args._rows.now c.args.pool.now (subst (λ (p : RowPlan). c.args._tree < p.trees) same c.requires.tree)
     c.requires.licensed
-    c.requires.teaches c.requires.shows (subst (λ (p : YardPlan). IsLoaded v p.trees c.args.pool.now) same c.requires.pool) c.requires.backs
+    c.requires.teaches c.requires.shows (subst (λ (p : RowPlan). IsLoaded v p.trees c.args.pool.now) same c.requires.pool) c.requires.backs
     c.left.result c.left.ensures
 
 pub overflow_sub-first : goal.overflow_sub-first
@@ -29,13 +29,13 @@ pub overflow_cast-first : goal.overflow_cast-first
 overflow_cast-first c =
     let f = found (goal.at.overflow_cast-first c).After-left in
     let few : rows_of (knows c.args.pass.now).plan < 4294967296 =
-    subst (λ (p : YardPlan). rows_of p < 4294967296) (sym c.requires.of.1) c.args.table.now.sized.0.3 in
+    subst (λ (p : RowPlan). rows_of p < 4294967296) (sym c.requires.of.1) c.args.table.now.sized.0.3 in
     omega arith
 
 pub seize-requires-clause-row : goal.seize-requires-clause-row
 seize-requires-clause-row c =
     let f = found (goal.at.seize-requires-clause-row c).After-left in (
-      subst (λ (p : YardPlan). c.left.result - 1 < rows_of p) c.requires.of.1 f.inside,
+      subst (λ (p : RowPlan). c.left.result - 1 < rows_of p) c.requires.of.1 f.inside,
       not_held (knows c.args.pass.now) (c.args.pool.now.row ∷ c.args._tree ∷ c.args._rows.now) c.requires.backs (c.left.result - 1) f.apart,
     )
 

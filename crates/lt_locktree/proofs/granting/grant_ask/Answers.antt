@@ -1,6 +1,6 @@
 use Rattle.std.proofs.Common.{◌≡◌, ◌+◌, ◌-◌, ◌<◌, List, true, map, drop, sym, ap, ◌∙◌, subst, arith}
 use Rattle.std.specs.List.{AllWithin}
-use Rattle.lt_seq.specs.declared.plan.YardPlan.{YardPlan}
+use Rattle.lt_rows.specs.declared.row_plan.RowPlan.{RowPlan}
 use Rattle.lt_seq.specs.Pairs.{IsLawful, is_own, others}
 use Rattle.lt_forest.specs.declared.part.Part.{Part}
 use Rattle.lt_forest.specs.declared.part.PartRow.{PartRow}
@@ -18,7 +18,7 @@ rows_are c = c.deref.ensures.value ∙ ap (λ (p : Part). p.rows.items) c.part.e
 pub overlapping-met-requires : goal.overlapping-met-requires
 overlapping-met-requires c =
     let s = c.args.locked in
-    let here : s.tree < (knows s.pass).plan.trees = subst (λ (p : YardPlan). s.tree < p.trees) (sym s.of.0.1) s.of.2 in
+    let here : s.tree < (knows s.pass).plan.trees = subst (λ (p : RowPlan). s.tree < p.trees) (sym s.of.0.1) s.of.2 in
     subst (λ (rs : List PartRow). IsLawful (map row_pair rs)) (sym (rows_are c))
     (rows_lawful (knows s.pass) s.tree s.asked s.held s.part.rows.items s.part.hangs.items (pool_rows (knows s.pass).plan.trees s.pool)
     c.requires.locked c.requires.closed here)

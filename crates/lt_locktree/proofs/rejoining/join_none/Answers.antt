@@ -4,9 +4,9 @@ use Rattle.std.proofs.lemmas.List.{length-map}
 use Rattle.lt_seq.specs.declared.event.Event.{Event}
 use Rattle.lt_seq.specs.declared.event.Pair.{Pair}
 use Rattle.lt_seq.specs.declared.event.Deed.TheVariants.{Join}
-use Rattle.lt_seq.specs.declared.plan.YardPlan.{YardPlan}
+use Rattle.lt_rows.specs.declared.row_plan.RowPlan.{RowPlan}
 use Rattle.lt_seq.specs.History.{after}
-use Rattle.lt_seq.specs.SeqPass.{plain}
+use Rattle.lt_rows.specs.Plan.{setting_of}
 use Rattle.lt_seq.specs.Table.{tree_at, held_in}
 use Rattle.lt_forest.specs.declared.part.PartRow.{PartRow}
 use Rattle.lt_forest.specs.Parts.{row_pair}
@@ -43,11 +43,11 @@ returns-clause-made c =
     let n : ℕ = c.len-count.result in
     let rows : List PartRow = s.part.rows.items in
     let pairs : List Pair = map row_pair rows in
-    let lt : s.tree < v.plan.trees = subst (λ (k : YardPlan). s.tree < k.trees) (sym s.of.0.1) s.of.2 in
+    let lt : s.tree < v.plan.trees = subst (λ (k : RowPlan). s.tree < k.trees) (sym s.of.0.1) s.of.2 in
     let count : n ≡ length pairs = c.len-count.ensures ∙ ((search rules) ∙ sym (length-map rows row_pair)) in
     let held : c.in-Ok.pairs ≡ held_in a.tree pairs = search rules in
     noted v v w a [] (record { place = c.finish-pass.result.1; tree = a.tree; before = n; after = n; pairs = c.in-Ok.pairs }) pairs (rows_same v)
-    (λ log stood. subst (λ (t : ℕ). pairs ≡ (tree_at (after (plain v.plan) log) t).pairs) (sym of.1)
+    (λ log stood. subst (λ (t : ℕ). pairs ≡ (tree_at (after (setting_of v.plan) log) t).pairs) (sym of.1)
     (whole_tree_has_rows v s.tree s.asked s.held rows s.part.hangs.items (pool_rows v.plan.trees s.pool) log c.requires.locked c.requires.closed
     c.requires.anchor.1 lt c.requires.anchor.0 stood))
     (subst (λ (e : Event). Makes v w [] e c.finish-pass.result.1) c.join_event-event.ensures c.finish-pass.ensures.made)

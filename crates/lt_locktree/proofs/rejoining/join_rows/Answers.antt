@@ -1,15 +1,16 @@
-use Rattle.std.proofs.Common.{rules, ◌≡◌, ℕ, ◌<◌, List, [], map, length, replicate, ◌+◌, refl, sym, ap, ◌∙◌, subst, eq-eqb, arith, ℤ, pos, ◌+ℤ◌, w64, FitsSigned}
+use Rattle.std.proofs.Common.{rules, ◌≡◌, ℕ, ◌<◌, List, map, length, replicate, ◌+◌, refl, sym, ap, ◌∙◌, subst, eq-eqb, arith, ℤ, pos, ◌+ℤ◌, w64, FitsSigned}
 use Rattle.std.specs.Prelude.{nat_eq}
 use Rattle.std.proofs.lemmas.Int.{to_z-of_z}
 use Rattle.std.proofs.lemmas.List.{length-map}
+use Rattle.lt_ranges.specs.declared.key.Key.{Key}
 use Rattle.lt_ranges.specs.Interval.{Interval, whole}
 use Rattle.lt_seq.specs.declared.event.Event.{Event}
 use Rattle.lt_seq.specs.declared.event.Pair.{Pair}
 use Rattle.lt_seq.specs.declared.event.Deed.TheVariants.{Join}
-use Rattle.lt_seq.specs.declared.plan.YardPlan.{YardPlan}
+use Rattle.lt_rows.specs.declared.row_plan.RowPlan.{RowPlan}
 use Rattle.lt_seq.specs.History.{after as after_log}
 use Rattle.lt_seq.specs.Pairs.{joined}
-use Rattle.lt_seq.specs.SeqPass.{plain}
+use Rattle.lt_rows.specs.Plan.{setting_of}
 use Rattle.lt_seq.specs.Table.{tree_at, held_in}
 use Rattle.lt_forest.specs.declared.part.PartRow.{PartRow}
 use Rattle.lt_forest.specs.declared.part.Part.{Part}
@@ -24,6 +25,7 @@ use Rattle.lt_rows.proofs.Planned.{held_row}
 use Rattle.lt_tree.specs.declared.pool.PoolRows.{PoolRows}
 use Rattle.lt_tree.specs.Gathers.{IsClosed, IsLockedWith}
 use Rattle.lt_tree.specs.Pools.{pool_rows}
+use Rattle.lt_tree.proofs.ViewLaws.{rows_plan}
 use Rattle.lt_locktree.specs.Rejoined.{IsRejoinedPart}
 use Rattle.lt_locktree.specs.declared.asking.Asking.{Asking}
 use Rattle.lt_locktree.specs.Deeds.{asked_event}
@@ -59,6 +61,8 @@ served c change counts =
     let pool : RowImage = c.image-pool.result in
     let stays_long : length stays.words ≡ 21 = search rules in
     let pool_long : length pool.words ≡ 21 = search rules in
+    let plan_is : (knows c.args.locked.pass).plan.marks ≡ v.plan.marks =
+    ap (λ (k : RowPlan). k.marks) (sym (rows_plan (knows c.args.locked.pass) v c.pool.ensures.same.1)) in
     let same : knows c.image-stays.new.self.pass ≡ v = c.image-stays.ensures.same.1 in
     let anchor_is : c.pool_row-anchor.result ≡ v.plan.trees = c.pool_row-anchor.ensures ∙ ap (λ (u : View). u.plan.trees) same in
     let asked : s.asked ≡ whole = kept.2 ∙ c.requires.anchor.1 in
@@ -89,14 +93,14 @@ served c change counts =
     (subst (λ (p : PoolRows). 0 < times v.plan.trees (pool_rows v.plan.trees p)) (sym c.in_default-pool.ensures.pool)
     (anchor_in v.plan.trees c.args.locked.pool))
     top stays pool loaded pool_loaded c.args.left.now
-    (subst (λ (p : Part). IsRejoinedPart p.rows.items c.args.left.now) (sym kept.4) c.requires.left)
+    (subst (λ (x : Part × List Key). IsRejoinedPart x.1 x.0.rows.items c.args.left.now) (λ j. (sym kept.4 j, plan_is j)) c.requires.left)
     c.in-Ok-plan_freed.plan.items c.in-Ok-plan_freed.ensures change counts
 
 pub plan_freed-requires-clause-small : goal.plan_freed-requires-clause-small
 plan_freed-requires-clause-small c =
     let s = c.args.locked in
     joined_small s.pass s.table.now.plan s.tree s.held s.asked s.part.rows.items s.part.hangs.items (pool_rows (knows s.pass).plan.trees s.pool)
-    c.requires.locked c.requires.closed s.of.0.1 s.of.2 c.args.left.now c.requires.left
+    c.requires.locked c.requires.closed s.of.0.1 s.of.2 (knows s.pass).plan.marks c.args.left.now c.requires.left
 
 same_view : (c : After-fewer) → knows c.image-pool.new.self.pass ≡ knows c.pool.new.self.pass
 same_view c = c.image-pool.ensures.same.1 ∙ c.image-stays.ensures.same.1
@@ -145,23 +149,24 @@ returns-clause-made c =
     let asked : s.asked ≡ whole = kept.2 ∙ c.requires.anchor.1 in
     let top : s.held ≡ s.tree = kept.3 ∙ c.requires.anchor.0 ∙ sym kept.1 in
     let tree : a.tree ≡ s.tree = c.requires.asking.1 ∙ sym kept.1 in
-    let lt : s.tree < u.plan.trees = subst (λ (k : YardPlan). s.tree < k.trees) (sym s.of.0.1) s.of.2 in
+    let lt : s.tree < u.plan.trees = subst (λ (k : RowPlan). s.tree < k.trees) (sym s.of.0.1) s.of.2 in
     let closed : IsClosed s.asked rows s.part.hangs.items =
     subst (λ (x : Interval × Part). IsClosed x.0 x.1.rows.items x.1.hangs.items) (λ j. (sym kept.2 j, sym kept.4 j)) c.requires.closed in
-    let joined_is : map row_pair c.args.left.now.part.rows.items ≡ joined [] pairs =
-    left.pairs ∙ ap (λ (rs : List PartRow). joined [] (map row_pair rs)) (sym rows_is) in
+    let joined_is : map row_pair c.args.left.now.part.rows.items ≡ joined v.plan.marks pairs =
+    left.pairs ∙ ap (λ (rs : List PartRow). joined v.plan.marks (map row_pair rs)) (sym rows_is) in
     let same : knows c.image-pool.new.self.pass ≡ u = c.image-pool.ensures.same.1 ∙ c.image-stays.ensures.same.1 in
     let gone_is : gone ≡ length c.args.left.now.gone.items = c.len-count.ensures ∙ (search rules) in
     let stay_is : stay ≡ length c.args.left.now.part.rows.items = c.len-kept.ensures ∙ (search rules) in
     let before : stay + gone ≡ length pairs =
     (λ j. stay_is j + gone_is j)
-    ∙ (rows_before old c.args.left.now left ∙ (ap (λ (rs : List PartRow). length rs) (sym rows_is) ∙ sym (length-map rows row_pair))) in
-    let after : stay ≡ length (joined [] pairs) =
+    ∙ (rows_before v.plan.marks old c.args.left.now left
+    ∙ (ap (λ (rs : List PartRow). length rs) (sym rows_is) ∙ sym (length-map rows row_pair))) in
+    let after : stay ≡ length (joined v.plan.marks pairs) =
     stay_is ∙ (sym (length-map c.args.left.now.part.rows.items row_pair) ∙ ap (λ (ps : List Pair). length ps) joined_is) in
     let listed : c.in-Ok.pairs ≡ held_in a.tree (map row_pair c.args.left.now.part.rows.items) = search rules in
     noted v u w a plan (record { place = c.finish-pass.result.1; tree = a.tree; before = stay + gone; after = stay; pairs = c.in-Ok.pairs }) pairs
     c.pool.ensures.same.1
-    (λ log stood. subst (λ (t : ℕ). pairs ≡ (tree_at (after_log (plain u.plan) log) t).pairs) (sym tree)
+    (λ log stood. subst (λ (t : ℕ). pairs ≡ (tree_at (after_log (setting_of u.plan) log) t).pairs) (sym tree)
     (whole_tree_has_rows u s.tree s.asked s.held rows s.part.hangs.items (pool_rows u.plan.trees s.pool) log c.pool.ensures.locked closed asked lt top
     stood))
     (subst (λ (x : View × Event). Makes x.0 w plan x.1 c.finish-pass.result.1) (λ j. (same j, c.join_event-event.ensures j)) c.finish-pass.ensures.made)

@@ -1,5 +1,6 @@
 use Rattle.std.proofs.Common.{rules, ◌≡◌, length, [], ◌<◌, ◌∙◌, sym, ap, subst, List, map, replicate, ℕ, Result, Ok, Err, IfOk}
-use Rattle.lt_seq.specs.declared.plan.YardPlan.{YardPlan}
+use Rattle.lt_ranges.specs.declared.key.Key.{Key}
+use Rattle.lt_rows.specs.declared.row_plan.RowPlan.{RowPlan}
 use Rattle.lt_seq.specs.Pairs.{IsLawful}
 use Rattle.lt_forest.specs.Parts.{row_pair}
 use Rattle.lt_forest.specs.declared.part.PartRow.{PartRow}
@@ -13,7 +14,7 @@ use Rattle.lt_locktree.proofs.JoinNotes.{join_on}
 use Rattle.lt_locktree.proofs.NoneJoined.{none_joined}
 use Rattle.lt_locktree.proofs.GrantedRuns.{rows_lawful}
 use Rattle.lt_locktree.proofs.GrownServed.{hangs_between}
-use Rattle.lt_locktree.proofs.JoinServed.{all_zero}
+use Rattle.lt_locktree.proofs.JoinServed.{all_zero, rejoined_part}
 use Rattle.lt_locktree.proofs.rejoining.join_tree.Goals as goal
 
 pub rejoin-requires : goal.rejoin-requires
@@ -23,7 +24,7 @@ rejoin-requires c =
     subst (λ (rs : List PartRow). IsLawful (map row_pair rs))
     (sym (c.deref.ensures.value ∙ ap (λ (p : Part). p.rows.items) c.part.ensures))
     (rows_lawful (knows s.pass) s.tree s.asked s.held s.part.rows.items s.part.hangs.items [] e.locked e.closed
-    (subst (λ (p : YardPlan). s.tree < p.trees) (sym s.of.0.1) s.of.2))
+    (subst (λ (p : RowPlan). s.tree < p.trees) (sym s.of.0.1) s.of.2))
 
 pub join_rows-requires-clause-bare : goal.join_rows-requires-clause-bare
 join_rows-requires-clause-bare c =
@@ -54,6 +55,16 @@ returns-then-is_empty-clause-made c =
     ok_map c.join_none.result (λ r. MakesJoin w (knows r.0) a r.1) (λ r. MakesJoin v (knows r.0) a r.1)
     (λ r. join_on v w (knows r.0) a r.1 c.in_default.ensures.same.1) c.join_none.ensures.made
 
+pub join_rows-requires-clause-left : goal.join_rows-requires-clause-left
+join_rows-requires-clause-left c =
+    let s = c.widen_whole.new.locked in
+    let rows_is : c.deref.result.now ≡ s.part.rows.items = c.deref.ensures.value ∙ ap (λ (p : Part). p.rows.items) c.part.ensures in
+    let marks_are : c.marks.result.now ≡ (knows s.pass).plan.marks = c.marks.ensures ∙ ap (λ (k : RowPlan). k.marks) (sym s.of.0.1) in
+    let e = c.in-Ok-part_rejoined.ensures in
+    rejoined_part (knows s.pass).plan.marks s.part.rows.items c.in-Ok.after c.in-Ok-part_rejoined.left
+    (subst (λ (x : List Key × List PartRow). IsRejoined x.0 x.1 c.in-Ok.after) (λ j. (marks_are j, rows_is j)) c.in-Ok.ensures)
+    (ap (λ v. v.items) e.0) (ap (λ v. v.items) e.1) e.2
+
 pub join_none-requires-clause-bare : goal.join_none-requires-clause-bare
 join_none-requires-clause-bare c =
     let s = c.widen_whole.new.locked in
@@ -66,5 +77,7 @@ pub join_none-requires-clause-none : goal.join_none-requires-clause-none
 join_none-requires-clause-none c =
     let s = c.widen_whole.new.locked in
     let rows_is : c.deref.result.now ≡ s.part.rows.items = c.deref.ensures.value ∙ ap (λ (p : Part). p.rows.items) c.part.ensures in
+    let marks_are : c.marks.result.now ≡ (knows s.pass).plan.marks = c.marks.ensures ∙ ap (λ (k : RowPlan). k.marks) (sym s.of.0.1) in
     let empty : length c.in-Ok.after.gone.items ≡ 0 = search rules in
-    none_joined s.part.rows.items c.in-Ok.after (subst (λ (rs : List PartRow). IsRejoined rs c.in-Ok.after) rows_is c.in-Ok.ensures) empty
+    none_joined (knows s.pass).plan.marks s.part.rows.items c.in-Ok.after
+    (subst (λ (x : List Key × List PartRow). IsRejoined x.0 x.1 c.in-Ok.after) (λ j. (marks_are j, rows_is j)) c.in-Ok.ensures) empty

@@ -1,5 +1,5 @@
 use Rattle.std.proofs.Common.{◌≡◌, ℕ, ◌<◌, ◌≤◌, List, None, refl, ap, ◌∙◌, arith}
-use Rattle.lt_seq.specs.declared.plan.YardPlan.{YardPlan}
+use Rattle.lt_rows.specs.declared.row_plan.RowPlan.{RowPlan}
 use Rattle.lt_rows.specs.declared.take.Take.TheVariants.{Taken}
 use Rattle.lt_rows.specs.declared.view.View.{View}
 use Rattle.lt_rows.specs.Handles.{knows, Tries}
@@ -24,7 +24,7 @@ given_back v w x y row none tries same given =
 pub take-requires-clause-row : goal.take-requires-clause-row
 unfolding rows_of
 take-requires-clause-row c =
-    let limit = ap (λ (k : YardPlan). k.limit) c.plan.ensures in
+    let limit = ap (λ (k : RowPlan). k.limit) c.plan.ensures in
     (omega arith, c.requires.none c.args.row)
 
 pub load_row-image-requires-clause-row : goal.load_row-image-requires-clause-row

@@ -4,7 +4,7 @@ use Rattle.lt_seq.specs.declared.event.Event.{Event}
 use Rattle.lt_seq.specs.declared.event.Deed.{Deed}
 use Rattle.lt_seq.specs.declared.event.Deed.TheVariants.{Free}
 use Rattle.std.specs.Prelude.{false}
-use Rattle.lt_seq.specs.declared.plan.YardPlan.{YardPlan}
+use Rattle.lt_rows.specs.declared.row_plan.RowPlan.{RowPlan}
 use Rattle.lt_rows.specs.declared.view.View.{View}
 use Rattle.lt_rows.specs.Views.{row_at}
 use Rattle.lt_rows.specs.Handles.{knows}
@@ -32,7 +32,7 @@ returns-clause-made c =
       log = log;
       seen = (made.0, refl);
       front = ap (λ (u : View). u.front) made.2 ∙ ap (λ (d : Deed). (v.front ++ made.0) ++ record { pass = c.args.pass.now.number; txn = c.args.txn; deed = d } ∷ []) deed_is;
-      place_is = made.1.place_is ∙ ap (λ (k : YardPlan). k.first + length (v.front ++ made.0)) c.requires.of.1;
+      place_is = made.1.place_is ∙ ap (λ (k : RowPlan). k.first + length (v.front ++ made.0)) c.requires.of.1;
     }
 
 pub returns-clause-rows : goal.returns-clause-rows

@@ -6,7 +6,7 @@ use Rattle.lt_seq.specs.declared.event.Event.{Event}
 use Rattle.lt_seq.specs.declared.event.Deed.{Deed}
 use Rattle.lt_seq.specs.declared.event.Deed.TheVariants.{Ask}
 use Rattle.lt_seq.specs.declared.event.Reply.TheVariants.{Granted}
-use Rattle.lt_seq.specs.declared.plan.YardPlan.{YardPlan}
+use Rattle.lt_rows.specs.declared.row_plan.RowPlan.{RowPlan}
 use Rattle.lt_forest.specs.Trees.{Node}
 use Rattle.lt_rows.specs.declared.view.View.{View}
 use Rattle.lt_rows.specs.Views.{row_at}
@@ -47,7 +47,7 @@ returns-clause-made c =
       log = u.front ++ made.0;
       seen = (made.0, refl);
       front = ap (λ (x : View). x.front) made.2 ∙ ap (λ (d : Deed). (u.front ++ made.0) ++ record { pass = c.look-look.new.pass.number; txn = c.args.txn; deed = d } ∷ []) deed_is;
-      place_is = made.1.place_is ∙ ap (λ (k : YardPlan). k.first + length (u.front ++ made.0)) c.look-look.ensures.of.0.1;
+      place_is = made.1.place_is ∙ ap (λ (k : RowPlan). k.first + length (u.front ++ made.0)) c.look-look.ensures.of.0.1;
     } in
     let own = subst (λ (n : ℕ). IsCommitOf c.args.table.now.plan u w (record { pass = n; txn = c.args.txn; deed = ask_whole c.args.tree }) c.commit-place.result) number mine in
     then_ended c.args.table.now.plan v u w (knows c.give_back.new.pass) looks.rest _ c.commit-place.result

@@ -2,7 +2,7 @@ use Rattle.std.proofs.Common.{◌++◌, ◌+◌, List, length, refl, sym, ap, �
 use mathlib.Core.Logic.{dite}
 use native.Mathlib.Decide.{ℕ_discrete}
 use Rattle.lt_seq.specs.declared.event.Event.{Event}
-use Rattle.lt_seq.specs.declared.plan.YardPlan.{YardPlan}
+use Rattle.lt_rows.specs.declared.row_plan.RowPlan.{RowPlan}
 use Rattle.lt_rows.specs.declared.view.View.{View}
 use Rattle.lt_rows.specs.declared.image.RowImage.{RowImage}
 use Rattle.lt_rows.specs.Views.{row_at}
@@ -38,7 +38,7 @@ returns-clause-place c =
     let v : View = knows c.descend.new.pass in
     let made = c.settle-place.ensures.settled in
     let front = c.give_back.ensures.front ∙ ap (λ (u : View). u.front) made.2 in
-    made.1.place_is ∙ (ap (λ (k : YardPlan). k.first + length (v.front ++ made.0)) c.descend.ensures.of.0.1 ∙ ap (λ (l : List Event). c.args.table.now.plan.first + length l) (sym front))
+    made.1.place_is ∙ (ap (λ (k : RowPlan). k.first + length (v.front ++ made.0)) c.descend.ensures.of.0.1 ∙ ap (λ (l : List Event). c.args.table.now.plan.first + length l) (sym front))
 
 pub returns-clause-none : goal.returns-clause-none
 returns-clause-none c r =

@@ -1,6 +1,6 @@
 use Rattle.std.proofs.Common.{rules, ◌≡◌, ℕ, ◌<◌, [], ◌∷◌, ◌++◌, sym, ap, ◌∙◌, subst, arith, refl}
 use Rattle.lt_ranges.specs.Interval.{Interval, overlap}
-use Rattle.lt_seq.specs.declared.plan.YardPlan.{YardPlan}
+use Rattle.lt_rows.specs.declared.row_plan.RowPlan.{RowPlan}
 use Rattle.lt_rows.specs.declared.view.View.{View}
 use Rattle.lt_rows.specs.declared.table.RowTable.{RowTable}
 use Rattle.lt_rows.specs.Handles.{knows}
@@ -91,7 +91,7 @@ loop-link-smaller c =
 
 -- the child stands below the anchors
 below_anchors : (v : View) (tb : RowTable) (tree row : ℕ) → v.plan ≡ tb.plan → v.plan.trees < row → tree < tb.plan.trees → tree < row
-below_anchors v tb tree row is far top = let more = subst (λ (k : YardPlan). k.trees < row) is far in omega arith
+below_anchors v tb tree row is far top = let more = subst (λ (k : RowPlan). k.trees < row) is far in omega arith
 
 pub loop-link-preserved-then-steps-gt0 : goal.loop-link-preserved-then-steps-gt0
 loop-link-preserved-then-steps-gt0 c =

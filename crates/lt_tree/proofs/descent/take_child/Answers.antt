@@ -1,5 +1,5 @@
 use Rattle.std.proofs.Common.{◌<◌, ℕ, ◌+◌, ◌-◌, sym, ap, ◌∙◌, subst, arith}
-use Rattle.lt_seq.specs.declared.plan.YardPlan.{YardPlan}
+use Rattle.lt_rows.specs.declared.row_plan.RowPlan.{RowPlan}
 use Rattle.lt_rows.specs.Views.{rows_of}
 use Rattle.lt_rows.specs.Handles.{knows}
 use Rattle.lt_tree.proofs.ViewLaws.{seized_row, rows_seized}
@@ -13,15 +13,15 @@ use Rattle.lt_tree.proofs.descent.take_child.Goals as goal
 pub overflow_cast-row : goal.overflow_cast-row
 overflow_cast-row c =
     let few = c.args.table.now.sized.0.3 in
-    let t = subst (λ (p : YardPlan). c.args.tree < p.trees) (sym c.requires.of.1) c.requires.tree in
+    let t = subst (λ (p : RowPlan). c.args.tree < p.trees) (sym c.requires.of.1) c.requires.tree in
     let f : c.args.link - 1 < rows_of c.args.table.now.plan =
-    subst (λ (p : YardPlan). c.args.link - 1 < rows_of p) c.requires.of.1 (further _ _ _ _ _ _ _ c.requires.descends.1 t c.requires.some).1 in
+    subst (λ (p : RowPlan). c.args.link - 1 < rows_of p) c.requires.of.1 (further _ _ _ _ _ _ _ c.requires.descends.1 t c.requires.some).1 in
     omega arith
 
 pub seize-requires-clause-row : goal.seize-requires-clause-row
 seize-requires-clause-row c =
-    let t = subst (λ (p : YardPlan). c.args.tree < p.trees) (sym c.requires.of.1) c.requires.tree in (
-      subst (λ (p : YardPlan). c.args.link - 1 < rows_of p) c.requires.of.1 (further _ _ _ _ _ _ _ c.requires.descends.1 t c.requires.some).1,
+    let t = subst (λ (p : RowPlan). c.args.tree < p.trees) (sym c.requires.of.1) c.requires.tree in (
+      subst (λ (p : RowPlan). c.args.link - 1 < rows_of p) c.requires.of.1 (further _ _ _ _ _ _ _ c.requires.descends.1 t c.requires.some).1,
       child_free _ _ _ _ _ _ _ c.requires.descends.1 t c.requires.some,
     )
 

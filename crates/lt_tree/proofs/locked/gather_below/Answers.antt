@@ -1,6 +1,6 @@
 use Rattle.std.proofs.Common.{◌<◌, ◌∙◌, List, ℕ, sym, subst}
 use Rattle.std.proofs.lemmas.Result.{IfOk-weaker}
-use Rattle.lt_seq.specs.declared.plan.YardPlan.{YardPlan}
+use Rattle.lt_rows.specs.declared.row_plan.RowPlan.{RowPlan}
 use Rattle.lt_forest.specs.declared.part.PartRow.{PartRow}
 use Rattle.lt_rows.specs.Views.{rows_of}
 use Rattle.lt_rows.specs.declared.view.View.{View}
@@ -14,8 +14,8 @@ use Rattle.lt_tree.proofs.locked.gather_below.Goals as goal
 pub begin-requires-clause-small : goal.begin-requires-clause-small
 begin-requires-clause-small c =
     first_small (knows c.args.pass.now) c.args.tree c.args.asked.now c.args.stop.now.here c.args.stop.now.child c.requires.stays
-    (subst (λ (p : YardPlan). c.args.tree < p.trees) (sym c.requires.of.1) c.requires.tree)
-    (subst (λ (p : YardPlan). rows_of p < 4294967296) (sym c.requires.of.1) c.args.table.now.sized.0.3)
+    (subst (λ (p : RowPlan). c.args.tree < p.trees) (sym c.requires.of.1) c.requires.tree)
+    (subst (λ (p : RowPlan). rows_of p < 4294967296) (sym c.requires.of.1) c.args.table.now.sized.0.3)
 
 pub gather_rest-requires-clause-begun : goal.gather_rest-requires-clause-begun
 gather_rest-requires-clause-begun c =

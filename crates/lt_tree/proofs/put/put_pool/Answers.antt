@@ -1,5 +1,5 @@
 use Rattle.std.proofs.Common.{ℕ, List, [], ◌∷◌, refl, sym, ap, ◌∙◌}
-use Rattle.lt_seq.specs.declared.plan.YardPlan.{YardPlan}
+use Rattle.lt_rows.specs.declared.row_plan.RowPlan.{RowPlan}
 use Rattle.lt_rows.specs.declared.view.View.{View}
 use Rattle.lt_rows.specs.Handles.{knows}
 use Rattle.lt_tree.specs.Pools.{pool_rows}
@@ -11,7 +11,7 @@ put-requires-clause-settled c =
     let v : View = knows c.args.pass.now in
     let rows : List ℕ = pool_rows v.plan.trees c.args.pool in
     let t = c.plan.result.now.trees in
-    let same = ap (λ (k : YardPlan). k.trees) (c.plan.ensures ∙ sym c.requires.of.1) in
+    let same = ap (λ (k : RowPlan). k.trees) (c.plan.ensures ∙ sym c.requires.of.1) in
     last_may_be_put v v rows rows (puts_none v rows c.requires.keeps) [] t (pool_anchor v.plan.trees t c.args.pool same c.in-Anchor.is)
 
 pub put-requires-in-Vacant-clause-settled : goal.put-requires-in-Vacant-clause-settled
@@ -20,7 +20,7 @@ put-requires-in-Vacant-clause-settled c =
     let rows : List ℕ = pool_rows v.plan.trees c.args.pool in
     let t = c.plan.result.now.trees in
     let row = c.in-Vacant.row in
-    let same = ap (λ (k : YardPlan). k.trees) (c.plan.ensures ∙ sym c.requires.of.1) in
+    let same = ap (λ (k : RowPlan). k.trees) (c.plan.ensures ∙ sym c.requires.of.1) in
     last_may_be_put v v rows rows (puts_none v rows c.requires.keeps) (row ∷ []) t (pool_vacant v.plan.trees t row c.args.pool same c.in-Vacant.is)
 
 pub put-requires-in-Vacant-2-clause-settled : goal.put-requires-in-Vacant-2-clause-settled
@@ -30,7 +30,7 @@ put-requires-in-Vacant-2-clause-settled c =
     let rows : List ℕ = pool_rows v.plan.trees c.args.pool in
     let t = c.plan.result.now.trees in
     let row = c.in-Vacant.row in
-    let same = ap (λ (k : YardPlan). k.trees) (c.plan.ensures ∙ sym c.requires.of.1) in
+    let same = ap (λ (k : RowPlan). k.trees) (c.plan.ensures ∙ sym c.requires.of.1) in
     let one = puts_one v v rows rows (puts_none v rows c.requires.keeps) (row ∷ []) t
     (pool_vacant v.plan.trees t row c.args.pool same c.in-Vacant.is) w c.put-in-Vacant.ensures.given in
     last_may_be_put v w rows (row ∷ []) one [] row refl
@@ -47,7 +47,7 @@ returns-in-Anchor-clause-put c =
     let u : View = knows c.put.new.pass in
     let rows : List ℕ = pool_rows v.plan.trees c.args.pool in
     let t = c.plan.result.now.trees in
-    let same = ap (λ (k : YardPlan). k.trees) (c.plan.ensures ∙ sym c.requires.of.1) in
+    let same = ap (λ (k : RowPlan). k.trees) (c.plan.ensures ∙ sym c.requires.of.1) in
     puts_all v u rows []
     (puts_one v v rows rows (puts_none v rows c.requires.keeps) [] t (pool_anchor v.plan.trees t c.args.pool same c.in-Anchor.is) u
     c.put.ensures.given) refl
@@ -60,7 +60,7 @@ returns-in-Vacant-clause-put c =
     let rows : List ℕ = pool_rows v.plan.trees c.args.pool in
     let t = c.plan.result.now.trees in
     let row = c.in-Vacant.row in
-    let same = ap (λ (k : YardPlan). k.trees) (c.plan.ensures ∙ sym c.requires.of.1) in
+    let same = ap (λ (k : RowPlan). k.trees) (c.plan.ensures ∙ sym c.requires.of.1) in
     let one = puts_one v v rows rows (puts_none v rows c.requires.keeps) (row ∷ []) t
     (pool_vacant v.plan.trees t row c.args.pool same c.in-Vacant.is) w c.put-in-Vacant.ensures.given in
     puts_all v u rows [] (puts_one v w rows (row ∷ []) one [] row refl u c.put-in-Vacant-2.ensures.given) refl

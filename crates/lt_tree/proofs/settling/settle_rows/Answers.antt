@@ -1,5 +1,5 @@
 use Rattle.std.proofs.Common.{sym, subst}
-use Rattle.lt_seq.specs.declared.plan.YardPlan.{YardPlan}
+use Rattle.lt_rows.specs.declared.row_plan.RowPlan.{RowPlan}
 use Rattle.lt_rows.specs.declared.view.View.{View}
 use Rattle.lt_rows.specs.Rule.{Stood}
 use Rattle.lt_rows.specs.Woods.{woods}
@@ -15,5 +15,5 @@ pub returns-clause-settles : goal.returns-clause-settles
 returns-clause-settles c =
     let u : View = knows c.settle.new.pass in
     settles_rows (knows c.args.pass.now) u (knows c.write_all.new.pass) c.args.plan.now c.settle.result c.settle.ensures.settled
-    (subst (λ (k : YardPlan). Stood (woods k) u u.front) (sym c.settle.ensures.of.0.1) c.settle.ensures.stood)
+    (subst (λ (k : RowPlan). Stood (woods k) u u.front) (sym c.settle.ensures.of.0.1) c.settle.ensures.stood)
     c.write_all.ensures.written c.requires.held c.requires.gathers c.requires.once

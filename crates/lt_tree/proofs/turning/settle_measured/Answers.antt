@@ -5,7 +5,7 @@ use Rattle.lt_rows.specs.Views.{row_at}
 use Rattle.lt_tree.specs.Turnings.{IsMeasured}
 use Rattle.lt_tree.proofs.SettledGaps.{free_settled}
 use Rattle.lt_tree.proofs.TurnedLaws.{measured_pair}
-use Rattle.lt_seq.specs.declared.plan.YardPlan.{YardPlan}
+use Rattle.lt_rows.specs.declared.row_plan.RowPlan.{RowPlan}
 use Rattle.lt_rows.specs.Lawful.{IsSettle}
 use Rattle.lt_rows.specs.Handles.{knows}
 use Rattle.lt_rows.proofs.Planned.{held_row}
@@ -23,8 +23,8 @@ settle_rows-requires-clause-held c =
 pub settle_rows-requires-clause-lawful : goal.settle_rows-requires-clause-lawful
 settle_rows-requires-clause-lawful c =
     let m = subst (λ (x : Option RowImage). IfSome x (λ now. IsMeasured c.args.tree c.args.here.now now × (c.args.here.now.row ≢ c.args.tree))) c.in-Some.is c.requires.measured in
-    let lt = subst (λ (p : YardPlan). c.args.tree < p.trees) (sym c.requires.of.1) c.requires.tree in
-    subst (λ (p : YardPlan). IsSettle p (knows c.args.pass.now) (c.in-Some.stays ∷ [])) c.requires.of.1
+    let lt = subst (λ (p : RowPlan). c.args.tree < p.trees) (sym c.requires.of.1) c.requires.tree in
+    subst (λ (p : RowPlan). IsSettle p (knows c.args.pass.now) (c.in-Some.stays ∷ [])) c.requires.of.1
     (measured_settles (knows c.args.pass.now) c.args.tree c.args.asked.now c.args.here.now c.args.row.now c.in-Some.stays c.requires.pair lt m.0 m.1)
 
 pub returns-in-None-clause-sees : goal.returns-in-None-clause-sees

@@ -1,5 +1,5 @@
 use Rattle.std.proofs.Common.{◌<◌, sym, subst, ◌∙◌}
-use Rattle.lt_seq.specs.declared.plan.YardPlan.{YardPlan}
+use Rattle.lt_rows.specs.declared.row_plan.RowPlan.{RowPlan}
 use Rattle.lt_rows.specs.Handles.{knows}
 use Rattle.lt_tree.proofs.ViewLaws.{rows_set}
 use Rattle.lt_tree.proofs.SeenLaws.{seen_met, seen_rows, seen_on}
@@ -13,7 +13,7 @@ settle_measured-stays-requires-clause-pair c =
 
 pub turn_three-requires-clause-three : goal.turn_three-requires-clause-three
 turn_three-requires-clause-three c =
-    let lt = subst (λ (p : YardPlan). c.args.tree < p.trees) (sym c.requires.of.1) c.requires.tree in
+    let lt = subst (λ (p : RowPlan). c.args.tree < p.trees) (sym c.requires.of.1) c.requires.tree in
     holds_three (knows c.args.pass.now) (knows c.take_deeper.new.pass) c.args.tree c.args.asked.now c.args.here.now c.args.row.now c.requires.pair lt
     c.in-Some.deeper.side c.in-Some.deeper.row c.in-Some.ensures.taken
 
@@ -34,7 +34,7 @@ returns-in-Some-clause-sees c =
 
 pub returns-in-Some-clause-free : goal.returns-in-Some-clause-free
 returns-in-Some-clause-free c =
-    let lt = subst (λ (p : YardPlan). c.args.tree < p.trees) (sym c.requires.of.1) c.requires.tree in
+    let lt = subst (λ (p : RowPlan). c.args.tree < p.trees) (sym c.requires.of.1) c.requires.tree in
     c.turn_three.ensures.free
     ∙ deeper_free (knows c.args.pass.now) (knows c.take_deeper.new.pass) c.args.tree c.args.asked.now c.args.here.now c.args.row.now c.requires.pair lt
     c.in-Some.deeper.side c.in-Some.deeper.row c.in-Some.ensures.taken

@@ -1,5 +1,5 @@
 use Rattle.std.proofs.Common.{◌<◌, sym, subst, [], ◌∷◌}
-use Rattle.lt_seq.specs.declared.plan.YardPlan.{YardPlan}
+use Rattle.lt_rows.specs.declared.row_plan.RowPlan.{RowPlan}
 use Rattle.lt_rows.specs.Views.{rows_of}
 use Rattle.lt_rows.specs.Lawful.{IsSettle}
 use Rattle.lt_rows.specs.Handles.{knows}
@@ -14,14 +14,14 @@ turn-requires-clause-links c =
     let v = knows c.args.pass.now in
     let h = c.requires.three in
     let few : rows_of (knows c.args.pass.now).plan < 4294967296 =
-    subst (λ (p : YardPlan). rows_of p < 4294967296) (sym c.requires.of.1) c.args.table.now.sized.0.3 in (
+    subst (λ (p : RowPlan). rows_of p < 4294967296) (sym c.requires.of.1) c.args.table.now.sized.0.3 in (
       links_small v h.teaches c.args.tree c.args.row.now.row (gap_in v c.args.tree c.args.asked.now c.args.row.now.row h.gap) c.args.row.now.words h.child_has few,
       links_small v h.teaches c.args.tree c.args.deeper.now.row.row h.low_gap c.args.deeper.now.row.words h.low_has few,
     )
 
 pub settle_rows-requires-clause-held : goal.settle_rows-requires-clause-held
 settle_rows-requires-clause-held c =
-    let lt = subst (λ (p : YardPlan). c.args.tree < p.trees) (sym c.requires.of.1) c.requires.tree in
+    let lt = subst (λ (p : RowPlan). c.args.tree < p.trees) (sym c.requires.of.1) c.requires.tree in
     let t = is_turn (knows c.args.pass.now) c.args.tree c.args.asked.now c.args.here.now c.args.row.now c.args.deeper.now.row c.args.measured
     c.relink-stays.result c.turn.result.upper c.turn.result.lower c.args.deeper.now.side c.side_to-side.result c.from.result c.requires.three lt
     c.requires.measured c.from.ensures c.side_to-side.ensures c.relink-stays.ensures.row c.relink-stays.ensures.node c.relink-stays.ensures.mode
@@ -31,18 +31,18 @@ settle_rows-requires-clause-held c =
 
 pub settle_rows-requires-clause-lawful : goal.settle_rows-requires-clause-lawful
 settle_rows-requires-clause-lawful c =
-    let lt = subst (λ (p : YardPlan). c.args.tree < p.trees) (sym c.requires.of.1) c.requires.tree in
+    let lt = subst (λ (p : RowPlan). c.args.tree < p.trees) (sym c.requires.of.1) c.requires.tree in
     let t = is_turn (knows c.args.pass.now) c.args.tree c.args.asked.now c.args.here.now c.args.row.now c.args.deeper.now.row c.args.measured
     c.relink-stays.result c.turn.result.upper c.turn.result.lower c.args.deeper.now.side c.side_to-side.result c.from.result c.requires.three lt
     c.requires.measured c.from.ensures c.side_to-side.ensures c.relink-stays.ensures.row c.relink-stays.ensures.node c.relink-stays.ensures.mode
     c.turn.ensures.rows c.turn.ensures.upper c.turn.ensures.lower in
-    subst (λ (p : YardPlan). IsSettle p (knows c.args.pass.now) (c.relink-stays.result ∷ c.turn.result.upper ∷ c.turn.result.lower ∷ [])) c.requires.of.1
+    subst (λ (p : RowPlan). IsSettle p (knows c.args.pass.now) (c.relink-stays.result ∷ c.turn.result.upper ∷ c.turn.result.lower ∷ [])) c.requires.of.1
     (turn_settles (knows c.args.pass.now) c.args.tree c.args.asked.now c.args.here.now c.args.row.now c.args.deeper.now.row c.relink-stays.result
     c.turn.result.upper c.turn.result.lower c.args.deeper.now.side c.side_to-side.result t)
 
 pub settle_rows-requires-clause-once : goal.settle_rows-requires-clause-once
 settle_rows-requires-clause-once c =
-    let lt = subst (λ (p : YardPlan). c.args.tree < p.trees) (sym c.requires.of.1) c.requires.tree in
+    let lt = subst (λ (p : RowPlan). c.args.tree < p.trees) (sym c.requires.of.1) c.requires.tree in
     let t = is_turn (knows c.args.pass.now) c.args.tree c.args.asked.now c.args.here.now c.args.row.now c.args.deeper.now.row c.args.measured
     c.relink-stays.result c.turn.result.upper c.turn.result.lower c.args.deeper.now.side c.side_to-side.result c.from.result c.requires.three lt
     c.requires.measured c.from.ensures c.side_to-side.ensures c.relink-stays.ensures.row c.relink-stays.ensures.node c.relink-stays.ensures.mode
@@ -52,7 +52,7 @@ settle_rows-requires-clause-once c =
 
 pub returns-clause-pair : goal.returns-clause-pair
 returns-clause-pair c =
-    let lt = subst (λ (p : YardPlan). c.args.tree < p.trees) (sym c.requires.of.1) c.requires.tree in
+    let lt = subst (λ (p : RowPlan). c.args.tree < p.trees) (sym c.requires.of.1) c.requires.tree in
     let t = is_turn (knows c.args.pass.now) c.args.tree c.args.asked.now c.args.here.now c.args.row.now c.args.deeper.now.row c.args.measured
     c.relink-stays.result c.turn.result.upper c.turn.result.lower c.args.deeper.now.side c.side_to-side.result c.from.result c.requires.three lt
     c.requires.measured c.from.ensures c.side_to-side.ensures c.relink-stays.ensures.row c.relink-stays.ensures.node c.relink-stays.ensures.mode
@@ -62,7 +62,7 @@ returns-clause-pair c =
 
 pub returns-clause-stays : goal.returns-clause-stays
 returns-clause-stays c =
-    let lt = subst (λ (p : YardPlan). c.args.tree < p.trees) (sym c.requires.of.1) c.requires.tree in
+    let lt = subst (λ (p : RowPlan). c.args.tree < p.trees) (sym c.requires.of.1) c.requires.tree in
     let t = is_turn (knows c.args.pass.now) c.args.tree c.args.asked.now c.args.here.now c.args.row.now c.args.deeper.now.row c.args.measured
     c.relink-stays.result c.turn.result.upper c.turn.result.lower c.args.deeper.now.side c.side_to-side.result c.from.result c.requires.three lt
     c.requires.measured c.from.ensures c.side_to-side.ensures c.relink-stays.ensures.row c.relink-stays.ensures.node c.relink-stays.ensures.mode
@@ -72,7 +72,7 @@ returns-clause-stays c =
 
 pub returns-clause-free : goal.returns-clause-free
 returns-clause-free c =
-    let lt = subst (λ (p : YardPlan). c.args.tree < p.trees) (sym c.requires.of.1) c.requires.tree in
+    let lt = subst (λ (p : RowPlan). c.args.tree < p.trees) (sym c.requires.of.1) c.requires.tree in
     let t = is_turn (knows c.args.pass.now) c.args.tree c.args.asked.now c.args.here.now c.args.row.now c.args.deeper.now.row c.args.measured
     c.relink-stays.result c.turn.result.upper c.turn.result.lower c.args.deeper.now.side c.side_to-side.result c.from.result c.requires.three lt
     c.requires.measured c.from.ensures c.side_to-side.ensures c.relink-stays.ensures.row c.relink-stays.ensures.node c.relink-stays.ensures.mode

@@ -1,6 +1,6 @@
 use Rattle.std.proofs.Common.{◌≡◌, ◌<◌, ℕ, suc, ◌-◌, List, ◌∷◌, ◌++◌, length, take, drop, sym, ap, ap₂, ◌∙◌, subst, arith}
 use Rattle.lt_ranges.specs.Interval.{Interval}
-use Rattle.lt_seq.specs.declared.plan.YardPlan.{YardPlan}
+use Rattle.lt_rows.specs.declared.row_plan.RowPlan.{RowPlan}
 use Rattle.lt_forest.specs.declared.part.PartRow.{PartRow}
 use Rattle.lt_rows.specs.Nodes.{node_of}
 use Rattle.lt_rows.specs.Views.{rows_of}
@@ -13,12 +13,12 @@ use Rattle.lt_tree.proofs.widen.widen_at.Goals as goal
 
 pub seize-requires-clause-row : goal.seize-requires-clause-row
 seize-requires-clause-row c =
-    let lt = subst (λ (p : YardPlan). c.args.tree < p.trees) (sym c.requires.of.1) c.requires.tree in
+    let lt = subst (λ (p : RowPlan). c.args.tree < p.trees) (sym c.requires.of.1) c.requires.tree in
     let is = row_number c.args.part.now.hangs.items c.reserve-else-is_err.new.self.items c.args.at c.index.result.now
     c.reserve-else-is_err.ensures.items c.requires.hang.0 c.index.ensures c.requires.hang.1 in
     let h = hang_row (knows c.args.pass.now) c.args.tree c.args.asked.now c.args.here c.args.part.now.rows.items c.args.part.now.hangs.items
     c.requires.locked lt c.args.at (c.index.result.now - 1) c.requires.hang.0 is in
-    (subst (λ (p : YardPlan). c.index.result.now - 1 < rows_of p) c.requires.of.1 h.0, h.1)
+    (subst (λ (p : RowPlan). c.index.result.now - 1 < rows_of p) c.requires.of.1 h.0, h.1)
 
 pub returns-in-HeldBy-clause-locked : goal.returns-in-HeldBy-clause-locked
 returns-in-HeldBy-clause-locked c =

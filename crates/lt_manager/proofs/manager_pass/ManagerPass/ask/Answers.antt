@@ -2,10 +2,10 @@ use Rattle.std.proofs.Common.{◌≡◌, ℕ, ◌<◌, ◌∙◌, subst, sym, ap
 use Rattle.lt_seq.specs.declared.event.Deed.TheVariants.{Ask}
 use Rattle.lt_seq.specs.declared.event.Look.{Look}
 use Rattle.lt_seq.specs.declared.event.Reply.TheVariants.{Granted}
-use Rattle.lt_seq.specs.declared.plan.YardPlan.{YardPlan}
+use Rattle.lt_rows.specs.declared.row_plan.RowPlan.{RowPlan}
 use Rattle.lt_seq.specs.Table.{used}
 use Rattle.lt_seq.specs.History.{after}
-use Rattle.lt_seq.specs.SeqPass.{plain}
+use Rattle.lt_rows.specs.Plan.{setting_of}
 use Rattle.lt_seq.specs.Yard.{AskAnswers, bar_for}
 use Rattle.lt_locktree.specs.Calls.{sees}
 use Rattle.lt_manager.specs.Views.{view_of}
@@ -14,40 +14,40 @@ use Rattle.lt_manager.proofs.manager_pass.ManagerPass.ask.Goals as goal
 
 pub returns-in_err-look-clause-answer : goal.returns-in_err-look-clause-answer
 returns-in_err-look-clause-answer c =
-    let plan : YardPlan = (sees c.args.self.now.pass).plan in
+    let plan : RowPlan = (sees c.args.self.now.pass).plan in
     let deed = Ask c.args.tree c.args.range.now Granted in
-    let some : 0 < plan.trees = omega (arith, c.requires.tree, ap (λ (k : YardPlan). k.trees) c.requires.of.1) in
-    first_fails c.args.self.now c.look_for_place.new.self (bar_for (plain plan) c.args.big) c.args.txn deed c.look_for_place.ensures.watches
+    let some : 0 < plan.trees = omega (arith, c.requires.tree, ap (λ (k : RowPlan). k.trees) c.requires.of.1) in
+    first_fails c.args.self.now c.look_for_place.new.self (bar_for (setting_of plan) c.args.big) c.args.txn deed c.look_for_place.ensures.watches
     c.in_err-look.field-0.0 c.from_residual.result (search rules) some c.in_err-look.ensures.err
 
 pub ask_at-requires-clause-fresh : goal.ask_at-requires-clause-fresh
 ask_at-requires-clause-fresh c =
-    let plan : YardPlan = (sees c.args.self.now.pass).plan in
+    let plan : RowPlan = (sees c.args.self.now.pass).plan in
     let front = (sees c.look_for_place.new.self.pass).front in
-    let bar : c.bar_for-bar.result ≡ bar_for (plain plan) c.args.big =
-    c.bar_for-bar.ensures ∙ ap (λ (k : YardPlan). bar_for (plain k) c.args.big) (c.plan.ensures ∙ sym c.requires.of.1) in
-    let below : used (after (plain plan) front) < plan.limit =
-    omega (arith, c.if-look-bar.true, bar, bar_most (plain plan) c.args.big, ap (λ (l : Look). l.used) c.in_ok-look.ensures.seen) in
+    let bar : c.bar_for-bar.result ≡ bar_for (setting_of plan) c.args.big =
+    c.bar_for-bar.ensures ∙ ap (λ (k : RowPlan). bar_for (setting_of k) c.args.big) (c.plan.ensures ∙ sym c.requires.of.1) in
+    let below : used (after (setting_of plan) front) < plan.limit =
+    omega (arith, c.if-look-bar.true, bar, bar_most (setting_of plan) c.args.big, ap (λ (l : Look). l.used) c.in_ok-look.ensures.seen) in
     (c.in_ok-look.ensures.fresh, c.look_for_place.ensures.licensed ∙ is_licensed plan front c.in_ok-look.ensures.room below)
 
 pub returns-then-look-bar-clause-answer : goal.returns-then-look-bar-clause-answer
 returns-then-look-bar-clause-answer c =
-    let plan : YardPlan = (sees c.args.self.now.pass).plan in
+    let plan : RowPlan = (sees c.args.self.now.pass).plan in
     let deed = Ask c.args.tree c.args.range.now Granted in
-    let bar : c.bar_for-bar.result ≡ bar_for (plain plan) c.args.big =
-    c.bar_for-bar.ensures ∙ ap (λ (k : YardPlan). bar_for (plain k) c.args.big) (c.plan.ensures ∙ sym c.requires.of.1) in
-    let below : used (after (plain plan) (sees c.look_for_place.new.self.pass).front) < bar_for (plain plan) c.args.big =
+    let bar : c.bar_for-bar.result ≡ bar_for (setting_of plan) c.args.big =
+    c.bar_for-bar.ensures ∙ ap (λ (k : RowPlan). bar_for (setting_of k) c.args.big) (c.plan.ensures ∙ sym c.requires.of.1) in
+    let below : used (after (setting_of plan) (sees c.look_for_place.new.self.pass).front) < bar_for (setting_of plan) c.args.big =
     omega (arith, c.if-look-bar.true, bar, ap (λ (l : Look). l.used) c.in_ok-look.ensures.seen) in
-    asks_at_once c.args.self.now c.look_for_place.new.self (bar_for (plain plan) c.args.big) c.args.txn deed
+    asks_at_once c.args.self.now c.look_for_place.new.self (bar_for (setting_of plan) c.args.big) c.args.txn deed
     c.look_for_place.ensures.watches (view_of c.ask_at.new.self) c.ask_at.result c.look_for_place.ensures.of.1.0 below c.ask_at.ensures.answer
 
 pub returns-else-look-bar-clause-answer : goal.returns-else-look-bar-clause-answer
 returns-else-look-bar-clause-answer c =
-    let plan : YardPlan = (sees c.args.self.now.pass).plan in
+    let plan : RowPlan = (sees c.args.self.now.pass).plan in
     let deed = Ask c.args.tree c.args.range.now Granted in
     let new = view_of c.join_and_ask.new.self in
-    let bar : c.bar_for-bar.result ≡ bar_for (plain plan) c.args.big =
-    c.bar_for-bar.ensures ∙ ap (λ (k : YardPlan). bar_for (plain k) c.args.big) (c.plan.ensures ∙ sym c.requires.of.1) in
-    subst (λ (n : ℕ). AskAnswers (plain plan) n (view_of c.args.self.now) new c.args.txn deed c.join_and_ask.result) bar
+    let bar : c.bar_for-bar.result ≡ bar_for (setting_of plan) c.args.big =
+    c.bar_for-bar.ensures ∙ ap (λ (k : RowPlan). bar_for (setting_of k) c.args.big) (c.plan.ensures ∙ sym c.requires.of.1) in
+    subst (λ (n : ℕ). AskAnswers (setting_of plan) n (view_of c.args.self.now) new c.args.txn deed c.join_and_ask.result) bar
     (asks_joining c.args.self.now c.look_for_place.new.self c.bar_for-bar.result c.args.txn deed c.look_for_place.ensures.watches
     new c.join_and_ask.result c.look_for_place.ensures.of.1.0 c.join_and_ask.ensures.answer)

@@ -5,7 +5,7 @@ use Rattle.lt_seq.specs.declared.event.Reply.{Reply}
 use Rattle.lt_seq.specs.declared.event.Reply.TheVariants.{Granted}
 use Rattle.lt_seq.specs.declared.event.Receipt.{Receipt}
 use Rattle.lt_seq.specs.declared.fault.Fault.TheVariants.{OutOfMemory}
-use Rattle.lt_seq.specs.SeqPass.{plain}
+use Rattle.lt_rows.specs.Plan.{setting_of}
 use Rattle.lt_seq.specs.Yard.{IsSound, place_after, places_end}
 use Rattle.lt_locktree.specs.Calls.{sees, event_of}
 use Rattle.lt_manager.specs.Views.{Kept, view_of, view_with}
@@ -14,9 +14,9 @@ use Rattle.lt_manager.proofs.ReceiptLaws.{receipt_is, receipt_kept}
 use Rattle.lt_manager.proofs.manager_pass.ManagerPass.ask_at.Goals as goal
 
 -- the place, from the pass to its parts
-roomy : (p k : Kept) → k ≡ p → place_after (plain (sees p.pass).plan) (sees p.pass).front < places_end
-    → place_after (plain (sees k.pass).plan) (sees k.pass).front < places_end
-roomy p k is room = subst (λ (x : Kept). place_after (plain (sees x.pass).plan) (sees x.pass).front < places_end) (sym is) room
+roomy : (p k : Kept) → k ≡ p → place_after (setting_of (sees p.pass).plan) (sees p.pass).front < places_end
+    → place_after (setting_of (sees k.pass).plan) (sees k.pass).front < places_end
+roomy p k is room = subst (λ (x : Kept). place_after (setting_of (sees x.pass).plan) (sees x.pass).front < places_end) (sym is) room
 
 -- want of memory before the event
 pub returns-in_err-reserve-clause-answer : goal.returns-in_err-reserve-clause-answer
@@ -34,7 +34,7 @@ invariant_of-self-in_err-place c =
     let inside = c.self.inside in
     let k : Kept = record { pass = inside.pass; mine = inside.mine.items; notes = inside.notes.items } in
     let w = sees c.ask.new.pass in
-    subst (λ (mine : List Receipt). IsSound (plain w.plan) (view_with w mine inside.notes.items)) (sym c.reserve.ensures.items)
+    subst (λ (mine : List Receipt). IsSound (setting_of w.plan) (view_with w mine inside.notes.items)) (sym c.reserve.ensures.items)
     (behind_left_sound k w (roomy c.args.self.now k c.self.view_is c.requires.room)
     c.in_err-place.field-0.0 c.self.invariant c.in_err-place.ensures.left)
 
@@ -82,7 +82,7 @@ invariant_of-self-2 c =
     let k : Kept = record { pass = inside.pass; mine = inside.mine.items; notes = inside.notes.items } in
     let w = sees c.ask.new.pass in
     let asked = c.in_ok-place.field-0 in
-    subst (λ (mine : List Receipt). IsSound (plain w.plan) (view_with w mine inside.notes.items)) (sym (kept_receipt c))
+    subst (λ (mine : List Receipt). IsSound (setting_of w.plan) (view_with w mine inside.notes.items)) (sym (kept_receipt c))
     (behind_made_sound k w (roomy c.args.self.now k c.self.view_is c.requires.room) c.args.txn asked.place
     (Ask c.args.tree c.args.range.now asked.reply) c.in_ok-place.ensures.made.0 inside.notes.items c.self.invariant)
 

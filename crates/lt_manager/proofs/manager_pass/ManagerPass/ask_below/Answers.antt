@@ -2,10 +2,10 @@ use Rattle.std.proofs.Common.{◌≡◌, ◌<◌, ◌∙◌, ap, rules, arith}
 use Rattle.lt_seq.specs.declared.event.Deed.TheVariants.{Ask}
 use Rattle.lt_seq.specs.declared.event.Look.{Look}
 use Rattle.lt_seq.specs.declared.event.Reply.TheVariants.{Granted}
-use Rattle.lt_seq.specs.declared.plan.YardPlan.{YardPlan}
+use Rattle.lt_rows.specs.declared.row_plan.RowPlan.{RowPlan}
 use Rattle.lt_seq.specs.Table.{used}
 use Rattle.lt_seq.specs.History.{after}
-use Rattle.lt_seq.specs.SeqPass.{plain}
+use Rattle.lt_rows.specs.Plan.{setting_of}
 use Rattle.lt_locktree.specs.Calls.{sees}
 use Rattle.lt_manager.specs.Views.{view_of}
 use Rattle.lt_manager.proofs.AskLaws.{is_licensed, last_fails, out_of_locks, asks_last}
@@ -27,18 +27,18 @@ returns-then-look-bar-clause-answer c =
 
 pub ask_at-requires-clause-fresh : goal.ask_at-requires-clause-fresh
 ask_at-requires-clause-fresh c =
-    let plan : YardPlan = (sees c.args.self.now.pass).plan in
+    let plan : RowPlan = (sees c.args.self.now.pass).plan in
     let front = (sees c.look_for_place.new.self.pass).front in
-    let limit : plan.limit ≡ c.args.table.now.rows.plan.limit = ap (λ (k : YardPlan). k.limit) c.requires.of.1 in
-    let below : used (after (plain plan) front) < plan.limit =
+    let limit : plan.limit ≡ c.args.table.now.rows.plan.limit = ap (λ (k : RowPlan). k.limit) c.requires.of.1 in
+    let below : used (after (setting_of plan) front) < plan.limit =
     omega (arith, c.if-look-bar.false, c.requires.bar, ap (λ (l : Look). l.used) c.in_ok-look.ensures.seen, limit) in
     (c.in_ok-look.ensures.fresh, c.look_for_place.ensures.licensed ∙ is_licensed plan front c.in_ok-look.ensures.room below)
 
 pub returns-clause-answer : goal.returns-clause-answer
 returns-clause-answer c =
     let deed = Ask c.args.tree c.args.range.now Granted in
-    let plan : YardPlan = (sees c.args.self.now.pass).plan in
-    let below : used (after (plain plan) (sees c.look_for_place.new.self.pass).front) < c.args.bar =
+    let plan : RowPlan = (sees c.args.self.now.pass).plan in
+    let below : used (after (setting_of plan) (sees c.look_for_place.new.self.pass).front) < c.args.bar =
     omega (arith, c.if-look-bar.false, ap (λ (l : Look). l.used) c.in_ok-look.ensures.seen) in
     asks_last c.args.self.now c.look_for_place.new.self c.args.bar c.args.txn deed c.look_for_place.ensures.watches
     (view_of c.ask_at.new.self) c.ask_at.result c.look_for_place.ensures.of.1.0 below c.ask_at.ensures.answer

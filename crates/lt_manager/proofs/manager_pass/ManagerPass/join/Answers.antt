@@ -1,6 +1,6 @@
 use Rattle.std.proofs.Common.{rules, ◌≡◌, Err, sym, subst}
 use Rattle.lt_seq.specs.declared.event.Deed.TheVariants.{Join}
-use Rattle.lt_seq.specs.SeqPass.{plain}
+use Rattle.lt_rows.specs.Plan.{setting_of}
 use Rattle.lt_seq.specs.Yard.{Answers}
 use Rattle.lt_seq.proofs.YardLaws.{answers_of}
 use Rattle.lt_locktree.specs.Calls.{sees}
@@ -13,7 +13,7 @@ pub returns-in_err-look_for_place-clause-answer : goal.returns-in_err-look_for_p
 returns-in_err-look_for_place-clause-answer c =
     let fault = c.in_err-look_for_place.field-0.0 in
     let same : c.from_residual.result ≡ Err fault = search rules in
-    let setting = plain (sees c.args.self.now.pass).plan in
+    let setting = setting_of (sees c.args.self.now.pass).plan in
     let old = view_of c.args.self.now in
     let new = view_of c.look_for_place.new.self in
     subst (Answers setting old new c.args.txn (Join c.args.tree 0 0)) (sym same)

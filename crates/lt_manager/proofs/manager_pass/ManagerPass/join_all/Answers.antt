@@ -1,6 +1,6 @@
 use Rattle.std.proofs.Common.{◌≡◌, ◌<◌, ℕ, Result, Err, IfErr, subst, rules, sym, ap, arith}
 use Rattle.lt_seq.specs.declared.fault.Fault.{Fault}
-use Rattle.lt_seq.specs.declared.plan.YardPlan.{YardPlan}
+use Rattle.lt_rows.specs.declared.row_plan.RowPlan.{RowPlan}
 use Rattle.lt_manager.specs.Views.{view_of}
 use Rattle.lt_manager.specs.Behind.{StopsBehind}
 use Rattle.lt_manager.proofs.JoinedLaws.{stays_then, joined_first, joined_next, stops_first, stops_next}
@@ -28,7 +28,7 @@ returns-in_err-join-clause-err c =
     let new = view_of c.join.new.self in
     let fault = c.in_err-join.field-0.0 in
     let is : c.from_residual-in_err-join.result ≡ Err fault = search rules in
-    let few : c.loop-tree.tree < trees = omega (arith, c.loop-tree-test.true, ap (λ (k : YardPlan). k.trees) c.plan.ensures) in
+    let few : c.loop-tree.tree < trees = omega (arith, c.loop-tree-test.true, ap (λ (k : RowPlan). k.trees) c.plan.ensures) in
     subst (λ (r : Result (Unit {0}) Fault). IfErr r (StopsBehind c.args.self.now new c.args.txn trees)) (sym is)
     (stops_next c.args.self.now new c.args.txn c.loop-tree.self c.loop-tree.tree c.loop-tree.invariant.of.1.0 c.loop-tree.invariant.joined
     trees fault few c.in_err-join.ensures.answer)

@@ -1,7 +1,7 @@
 use Rattle.std.proofs.Common.{rules, ◌≡◌, ◌∙◌, sym, ap, subst, [], ◌∷◌, ◌++◌, Ok, Err}
 use Rattle.lt_seq.specs.declared.event.Deed.{Deed}
 use Rattle.lt_seq.specs.declared.event.Deed.TheVariants.{Who}
-use Rattle.lt_seq.specs.SeqPass.{plain}
+use Rattle.lt_rows.specs.Plan.{setting_of}
 use Rattle.lt_seq.specs.Questions.{question}
 use Rattle.lt_seq.specs.Yard.{Answers, IsSound}
 use Rattle.lt_seq.proofs.YardLaws.{answers_of}
@@ -15,7 +15,7 @@ pub returns-in_err-look_for_place-clause-answer : goal.returns-in_err-look_for_p
 returns-in_err-look_for_place-clause-answer c =
     let fault = c.in_err-look_for_place.field-0.0 in
     let same : c.from_residual.result ≡ Err fault = search rules in
-    let setting = plain (sees c.args.self.now.pass).plan in
+    let setting = setting_of (sees c.args.self.now.pass).plan in
     let old = view_of c.args.self.now in
     let new = view_of c.look_for_place.new.self in
     let deed = Who c.args.tree c.args.range.now c.args.as_txn [] in
@@ -27,7 +27,7 @@ pub invariant_of-self-in_err-place : goal.invariant_of-self-in_err-place
 invariant_of-self-in_err-place c =
     let inside = c.self.inside in
     let kept : Kept = record { pass = inside.pass; mine = inside.mine.items; notes = inside.notes.items } in
-    subst (λ mine. IsSound (plain (sees c.who.new.pass).plan) (view_with (sees c.who.new.pass) mine inside.notes.items))
+    subst (λ mine. IsSound (setting_of (sees c.who.new.pass).plan) (view_with (sees c.who.new.pass) mine inside.notes.items))
     (sym c.reserve.ensures.items)
     (call_left_sound c.args.self.now c.look_for_place.new.self kept (sees c.who.new.pass) c.self.view_is c.look_for_place.ensures.of.1.0
     c.look_for_place.ensures.watches c.in_ok-look_for_place.ensures.room c.args.txn c.in_err-place.field-0.0 c.in_err-place.ensures.left)
@@ -40,7 +40,7 @@ returns-in_err-place-clause-answer c =
     let kept : Kept = record { pass = inside.pass; mine = inside.mine.items; notes = inside.notes.items } in
     let left : Kept = record { pass = c.who.new.pass; mine = c.reserve.new.self.items; notes = inside.notes.items } in
     let deed = Who c.args.tree c.args.range.now c.args.as_txn [] in
-    subst (Answers (plain (sees c.args.self.now.pass).plan) (view_of c.args.self.now) (view_of left) c.args.txn deed) (sym same)
+    subst (Answers (setting_of (sees c.args.self.now.pass).plan) (view_of c.args.self.now) (view_of left) c.args.txn deed) (sym same)
     (call_left c.args.self.now c.look_for_place.new.self kept (sees c.who.new.pass) c.self.view_is c.look_for_place.ensures.of.1.0
     c.look_for_place.ensures.watches c.in_ok-look_for_place.ensures.room c.args.txn fault deed c.reserve.new.self.items
     c.reserve.ensures.items
@@ -81,7 +81,7 @@ returns-clause-answer c =
       event = record { pass = c.number-pass.result; txn = c.args.txn; deed = Who c.args.tree c.args.range.now c.args.as_txn owners };
     })
     c.in_ok-place.ensures.made.1) in
-    subst (λ r. Answers (plain (sees c.args.self.now.pass).plan) (view_of c.args.self.now) (view_of now) c.args.txn (question deed) (Ok r))
+    subst (λ r. Answers (setting_of (sees c.args.self.now.pass).plan) (view_of c.args.self.now) (view_of now) c.args.txn (question deed) (Ok r))
     (sym is)
     (call_made c.args.self.now c.look_for_place.new.self kept (sees c.who.new.pass) c.self.view_is c.look_for_place.ensures.of.1.0
     c.look_for_place.ensures.watches c.in_ok-look_for_place.ensures.room c.args.txn c.in_ok-place.field-0.place deed

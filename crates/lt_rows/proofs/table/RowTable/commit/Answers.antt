@@ -1,6 +1,6 @@
 use Rattle.std.proofs.Common.{rules, ℤ, [], ◌/◌, length, ap, ◌∙◌, subst, sym, w64}
 use Rattle.std.proofs.lemmas.Int.{to_z-of_z}
-use Rattle.lt_seq.specs.declared.plan.YardPlan.{YardPlan}
+use Rattle.lt_rows.specs.declared.row_plan.RowPlan.{RowPlan}
 use Rattle.lt_rows.specs.declared.view.View.{View}
 use Rattle.lt_rows.specs.Views.{rows_of}
 use Rattle.lt_rows.specs.Handles.{knows, Shows}
@@ -13,7 +13,7 @@ pub commit-requires-clause-lawful : goal.commit-requires-clause-lawful
 commit-requires-clause-lawful c =
     let same = c.args.self.now.sized.1 in
     let change = to_z-of_z w64 c.args.change c.ranges.change in
-    subst (λ (p : YardPlan × ℤ). IsCommit p.0 (knows c.args.pass.now) c.args.event.now c.args.plan.now p.1) (λ j. (sym same j, sym change j)) c.requires.lawful
+    subst (λ (p : RowPlan × ℤ). IsCommit p.0 (knows c.args.pass.now) c.args.event.now c.args.plan.now p.1) (λ j. (sym same j, sym change j)) c.requires.lawful
 
 pub invariant_of-pass : goal.invariant_of-pass
 invariant_of-pass c =
@@ -30,5 +30,5 @@ returns-clause-made c =
     let v : View = knows c.args.pass.now in
     let told = c.commit.ensures.told in
     let shows : Shows v told.0 (c.commit.result / 16777216) = search rules in
-    let lawful : IsCommit v.plan v c.args.event.now c.args.plan.now c.args.change = subst (λ (k : YardPlan). IsCommit k v c.args.event.now c.args.plan.now c.args.change) (sym c.requires.of.1) c.requires.lawful in
+    let lawful : IsCommit v.plan v c.args.event.now c.args.plan.now c.args.change = subst (λ (k : RowPlan). IsCommit k v c.args.event.now c.args.plan.now c.args.change) (sym c.requires.of.1) c.requires.lawful in
     (told.0, shows, told.1.0, λ mark. commit_is_legal v told.0 c.args.event.now c.args.plan.now c.args.change told.2.3 mark lawful)

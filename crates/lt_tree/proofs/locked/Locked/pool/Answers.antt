@@ -1,5 +1,5 @@
 use Rattle.std.proofs.Common.{◌≡◌, ◌<◌, ℕ, [], ◌∷◌, refl, sym, ap, ◌∙◌, subst, arith}
-use Rattle.lt_seq.specs.declared.plan.YardPlan.{YardPlan}
+use Rattle.lt_rows.specs.declared.row_plan.RowPlan.{RowPlan}
 use Rattle.lt_rows.specs.declared.view.View.{View}
 use Rattle.lt_rows.specs.declared.take.Take.TheVariants.{Taken}
 use Rattle.lt_rows.specs.Views.{rows_of, row_at, IsHeld}
@@ -18,11 +18,11 @@ take_row-requires-clause-row c =
     let v : View = knows c.args.self.now.pass in
     let s = c.args.self.now in
     let k = c.args.self.now.table.now.plan in
-    let lt = subst (λ (p : YardPlan). c.args.self.now.tree < p.trees) (sym s.of.0.1) s.of.2 in
-    let same : c.plan.result.now.trees ≡ v.plan.trees = ap (λ (p : YardPlan). p.trees) (c.plan.ensures ∙ sym s.of.0.1) in
+    let lt = subst (λ (p : RowPlan). c.args.self.now.tree < p.trees) (sym s.of.0.1) s.of.2 in
+    let same : c.plan.result.now.trees ≡ v.plan.trees = ap (λ (p : RowPlan). p.trees) (c.plan.ensures ∙ sym s.of.0.1) in
     let l = subst (λ (p : PoolRows). IsLockedWith v s.tree s.asked s.held s.part.rows.items s.part.hangs.items
     (pool_rows v.plan.trees p)) c.in-Nothing.is c.requires.locked in (
-      subst (λ (p : YardPlan). p.trees < rows_of c.args.self.now.table.now.plan) (sym c.plan.ensures) (anchor_row c.args.self.now.table.now.plan),
+      subst (λ (p : RowPlan). p.trees < rows_of c.args.self.now.table.now.plan) (sym c.plan.ensures) (anchor_row c.args.self.now.table.now.plan),
       subst (λ (n : ℕ). row_at v n ≡ _) (sym same) (pool_free v s.tree s.asked s.held s.part.rows.items s.part.hangs.items l lt),
     )
 
@@ -31,7 +31,7 @@ returns-in-Err-clause-locked c =
     let v : View = knows c.args.self.now.pass in
     let w : View = knows c.take_row.new.pass in
     let s = c.args.self.now in
-    let same : v.plan.trees ≡ w.plan.trees = ap (λ (p : YardPlan). p.trees) (s.of.0.1 ∙ sym c.in-Err.ensures.of.0.1) in
+    let same : v.plan.trees ≡ w.plan.trees = ap (λ (p : RowPlan). p.trees) (s.of.0.1 ∙ sym c.in-Err.ensures.of.0.1) in
     subst (λ (n : ℕ). IsLockedWith w s.tree s.asked s.held s.part.rows.items s.part.hangs.items (pool_rows n s.pool)) same
     (locked_met v w s.tree s.asked s.held s.part.rows.items s.part.hangs.items c.in-Err.ensures.only c.requires.locked)
 
@@ -40,12 +40,12 @@ returns-in-Ok-clause-locked c =
     let v : View = knows c.args.self.now.pass in
     let w : View = knows c.take_row.new.pass in
     let s = c.args.self.now in
-    let lt = subst (λ (p : YardPlan). c.args.self.now.tree < p.trees) (sym s.of.0.1) s.of.2 in
+    let lt = subst (λ (p : RowPlan). c.args.self.now.tree < p.trees) (sym s.of.0.1) s.of.2 in
     let l = subst (λ (p : PoolRows). IsLockedWith v s.tree s.asked s.held s.part.rows.items s.part.hangs.items
     (pool_rows v.plan.trees p)) c.in-Nothing.is c.requires.locked in
     let free = pool_free v s.tree s.asked s.held s.part.rows.items s.part.hangs.items l lt in
-    let at : c.plan.result.now.trees ≡ v.plan.trees = ap (λ (p : YardPlan). p.trees) (c.plan.ensures ∙ sym s.of.0.1) in
-    let same : v.plan.trees ≡ w.plan.trees = ap (λ (p : YardPlan). p.trees) (s.of.0.1 ∙ sym c.in-Ok.ensures.of.0.1) in
+    let at : c.plan.result.now.trees ≡ v.plan.trees = ap (λ (p : RowPlan). p.trees) (c.plan.ensures ∙ sym s.of.0.1) in
+    let same : v.plan.trees ≡ w.plan.trees = ap (λ (p : RowPlan). p.trees) (s.of.0.1 ∙ sym c.in-Ok.ensures.of.0.1) in
     subst (λ (n : ℕ). IsLockedWith w s.tree s.asked s.held s.part.rows.items s.part.hangs.items (n ∷ [])) same
     (locked_takes v s.tree s.asked s.held s.part.rows.items s.part.hangs.items l w v.plan.trees
     (subst (λ (n : ℕ). Seizes n v w Taken) at c.in-Ok.ensures.taken.0) free c.in-Ok.ensures.taken.1)
@@ -55,17 +55,17 @@ returns-in-Ok-clause-rows c =
     let v : View = knows c.args.self.now.pass in
     let w : View = knows c.take_row.new.pass in
     let s = c.args.self.now in
-    let lt = subst (λ (p : YardPlan). c.args.self.now.tree < p.trees) (sym s.of.0.1) s.of.2 in
+    let lt = subst (λ (p : RowPlan). c.args.self.now.tree < p.trees) (sym s.of.0.1) s.of.2 in
     let l = subst (λ (p : PoolRows). IsLockedWith v s.tree s.asked s.held s.part.rows.items s.part.hangs.items
     (pool_rows v.plan.trees p)) c.in-Nothing.is c.requires.locked in
     let free = pool_free v s.tree s.asked s.held s.part.rows.items s.part.hangs.items l lt in
-    let at : c.plan.result.now.trees ≡ v.plan.trees = ap (λ (p : YardPlan). p.trees) (c.plan.ensures ∙ sym s.of.0.1) in
+    let at : c.plan.result.now.trees ≡ v.plan.trees = ap (λ (p : RowPlan). p.trees) (c.plan.ensures ∙ sym s.of.0.1) in
     takes_keeps v s.tree s.asked s.held s.part.rows.items s.part.hangs.items l w v.plan.trees
     (subst (λ (n : ℕ). Seizes n v w Taken) at c.in-Ok.ensures.taken.0) free
 
 pub returns-in-Ok-clause-others : goal.returns-in-Ok-clause-others
 returns-in-Ok-clause-others c q ne =
-    let at = ap (λ (p : YardPlan). p.trees) (c.plan.ensures ∙ sym c.args.self.now.of.0.1) in
+    let at = ap (λ (p : RowPlan). p.trees) (c.plan.ensures ∙ sym c.args.self.now.of.0.1) in
     seized_else c.plan.result.now.trees (knows c.args.self.now.pass) (knows c.take_row.new.pass) c.in-Ok.ensures.taken.0 q (λ e. ne (e ∙ at))
 
 pub returns-in-Ok-clause-held : goal.returns-in-Ok-clause-held
@@ -73,7 +73,7 @@ returns-in-Ok-clause-held c =
     let v : View = knows c.args.self.now.pass in
     let w : View = knows c.take_row.new.pass in
     let s = c.args.self.now in
-    let at : c.plan.result.now.trees ≡ w.plan.trees = ap (λ (p : YardPlan). p.trees) (c.plan.ensures ∙ sym c.in-Ok.ensures.of.0.1) in
+    let at : c.plan.result.now.trees ≡ w.plan.trees = ap (λ (p : RowPlan). p.trees) (c.plan.ensures ∙ sym c.in-Ok.ensures.of.0.1) in
     let r = seized_row c.plan.result.now.trees v w c.in-Ok.ensures.taken.0 in
     subst (λ (n : ℕ). IsHeld w n) at (r.0, r.1)
 

@@ -1,5 +1,5 @@
 use Rattle.std.proofs.Common.{◌<◌, ◌++◌, ◌∷◌, ℕ, sym, ap, ◌∙◌, subst}
-use Rattle.lt_seq.specs.declared.plan.YardPlan.{YardPlan}
+use Rattle.lt_rows.specs.declared.row_plan.RowPlan.{RowPlan}
 use Rattle.lt_forest.specs.Parts.{numbers}
 use Rattle.lt_rows.specs.declared.view.View.{View}
 use Rattle.lt_rows.specs.Lawful.{IsSettle}
@@ -12,7 +12,7 @@ use Rattle.lt_tree.proofs.locked.Locked.settle.Goals as goal
 
 pub settle-place-requires-clause-lawful : goal.settle-place-requires-clause-lawful
 settle-place-requires-clause-lawful c =
-    subst (λ (k : YardPlan). IsSettle k (knows c.args.self.pass) c.args.plan.now) c.args.self.of.0.1 c.requires.lawful
+    subst (λ (k : RowPlan). IsSettle k (knows c.args.self.pass) c.args.plan.now) c.args.self.of.0.1 c.requires.lawful
 
 pub write_all-requires-clause-held : goal.write_all-requires-clause-held
 write_all-requires-clause-held c =
@@ -27,8 +27,8 @@ put_held-requires-clause-backs c =
     let u : View = knows c.settle-place.new.pass in
     let w : View = knows c.write_all.new.pass in
     let done = c.settle-place.ensures.settled in
-    let lt = subst (λ (k : YardPlan). c.args.self.tree < k.trees) (sym c.args.self.of.0.1) c.args.self.of.2 in
-    let same = ap (λ (k : YardPlan). k.trees) (c.args.self.of.0.1 ∙ sym c.write_all.ensures.of.0.1) in
+    let lt = subst (λ (k : RowPlan). c.args.self.tree < k.trees) (sym c.args.self.of.0.1) c.args.self.of.2 in
+    let same = ap (λ (k : RowPlan). k.trees) (c.args.self.of.0.1 ∙ sym c.write_all.ensures.of.0.1) in
     subst (λ (n : ℕ). Backs w (pool_rows n c.args.self.pool ++ c.args.self.held ∷ numbers c.args.self.part.rows.items)) same
     (backs_then v u w c.args.plan.now (settle_plans v u c.args.plan.now _ done.2) c.write_all.ensures.written _
     (locked_backs v c.args.self.tree c.args.self.asked c.args.self.held c.args.self.part.rows.items c.args.self.part.hangs.items

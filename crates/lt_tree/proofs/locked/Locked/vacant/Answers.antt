@@ -1,5 +1,5 @@
 use Rattle.std.proofs.Common.{◌≡◌, ◌<◌, ℕ, None, sym, ap, ◌∙◌, subst}
-use Rattle.lt_seq.specs.declared.plan.YardPlan.{YardPlan}
+use Rattle.lt_rows.specs.declared.row_plan.RowPlan.{RowPlan}
 use Rattle.lt_rows.specs.declared.view.View.{View}
 use Rattle.lt_rows.specs.Views.{row_at, with_row}
 use Rattle.lt_rows.specs.Handles.{knows}
@@ -23,7 +23,7 @@ returns-in-Err-take_first-clause-locked c =
     let w : View = knows c.put.new.pass in
     let l = subst (λ (p : PoolRows). IsLockedWith y s.tree s.asked s.held s.part.rows.items s.part.hangs.items (pool_rows y.plan.trees p))
     c.in-Err-take_first.ensures.before.0 c.in-Err-take_first.ensures.locked in
-    let at : c.plan.result.now.trees ≡ y.plan.trees = ap (λ (p : YardPlan). p.trees) (c.plan.ensures ∙ sym s.of.0.1) in
+    let at : c.plan.result.now.trees ≡ y.plan.trees = ap (λ (p : RowPlan). p.trees) (c.plan.ensures ∙ sym s.of.0.1) in
     locked_puts y s.tree s.asked s.held s.part.rows.items s.part.hangs.items y.plan.trees l w
     (subst (λ (n : ℕ). w ≡ with_row y n None) at c.put.ensures.given)
 
@@ -37,13 +37,13 @@ returns-in-Err-take_first-clause-before c =
     let w : View = knows c.put.new.pass in
     let before = subst (λ (p : PoolRows). IsLockedWith v a.tree a.asked a.held a.part.rows.items a.part.hangs.items
     (pool_rows v.plan.trees p)) c.in-Nothing.is c.requires.locked in
-    let lt = subst (λ (p : YardPlan). c.args.self.now.tree < p.trees) (sym a.of.0.1) a.of.2 in
+    let lt = subst (λ (p : RowPlan). c.args.self.now.tree < p.trees) (sym a.of.0.1) a.of.2 in
     let l = subst (λ (p : PoolRows). IsLockedWith y s.tree s.asked s.held s.part.rows.items s.part.hangs.items (pool_rows y.plan.trees p))
     c.in-Err-take_first.ensures.before.0 c.in-Err-take_first.ensures.locked in
-    let at : c.plan.result.now.trees ≡ y.plan.trees = ap (λ (p : YardPlan). p.trees) (c.plan.ensures ∙ sym s.of.0.1) in
+    let at : c.plan.result.now.trees ≡ y.plan.trees = ap (λ (p : RowPlan). p.trees) (c.plan.ensures ∙ sym s.of.0.1) in
     let gone = further_gone y s.tree s.asked s.held s.part.rows.items s.part.hangs.items y.plan.trees l w
     (subst (λ (n : ℕ). w ≡ with_row y n None) at c.put.ensures.given) in
-    let same = ap (λ (p : YardPlan). p.trees)
+    let same = ap (λ (p : RowPlan). p.trees)
     (rows_plan x y c.in-Err-take_first.ensures.same.1 ∙ rows_plan v x c.in-Ok.ensures.same.1) in (
       sym c.in-Nothing.is,
       same_again v x y w v.plan.trees (pool_free v a.tree a.asked a.held a.part.rows.items a.part.hangs.items before lt) c.in-Ok.ensures.others

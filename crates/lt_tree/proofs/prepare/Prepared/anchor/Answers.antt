@@ -1,5 +1,5 @@
 use Rattle.std.proofs.Common.{◌≡◌, ◌<◌, ap, sym, subst, arith}
-use Rattle.lt_seq.specs.declared.plan.YardPlan.{YardPlan}
+use Rattle.lt_rows.specs.declared.row_plan.RowPlan.{RowPlan}
 use Rattle.lt_rows.specs.Views.{rows_of}
 use Rattle.lt_rows.specs.Handles.{knows}
 use Rattle.lt_tree.proofs.AnchorLaws.{top_small, mode_shown}
@@ -7,7 +7,7 @@ use Rattle.lt_tree.proofs.prepare.Prepared.anchor.Goals as goal
 
 pub overflow_cast-result : goal.overflow_cast-result
 overflow_cast-result c =
-    let lt = subst (λ (p : YardPlan). c.args.self.now.tree < p.trees) (sym c.args.self.now.of.1) c.args.self.now.prepared.1 in
+    let lt = subst (λ (p : RowPlan). c.args.self.now.tree < p.trees) (sym c.args.self.now.of.1) c.args.self.now.prepared.1 in
     let small = top_small (knows c.args.self.now.pass) c.args.self.now.tree c.args.self.now.image c.args.self.now.prepared.2 lt c.args.self.now.taught in
     let few = c.args.self.now.table.now.sized.0.3 in
     let rows : rows_of (knows c.args.self.now.pass).plan ≡ rows_of c.args.self.now.table.now.plan = ap rows_of c.args.self.now.of.1 in

@@ -1,5 +1,5 @@
 use Rattle.std.proofs.Common.{rules, ◌≡◌, ◌<◌, ◌++◌, ◌∷◌, List, ℕ, [], sym, ap, ◌∙◌, subst, arith}
-use Rattle.lt_seq.specs.declared.plan.YardPlan.{YardPlan}
+use Rattle.lt_rows.specs.declared.row_plan.RowPlan.{RowPlan}
 use Rattle.lt_forest.specs.declared.part.PartRow.{PartRow}
 use Rattle.lt_forest.specs.Forest.{IsTree}
 use Rattle.lt_rows.specs.declared.view.View.{View}
@@ -19,7 +19,7 @@ overflow_cast-left c =
     let l = c.load_row-anchor.ensures in
     let w : View = knows c.load_row-anchor.new.pass in
     let p = prepared_again (knows c.args.self.pass) w s.tree s.image c.load_row-anchor.result s.prepared.2 l.same l.words.0 l.words.1 in
-    let lt = subst (λ (k : YardPlan). c.args.self.tree < k.trees) (sym l.of.0.1) s.prepared.1 in
+    let lt = subst (λ (k : RowPlan). c.args.self.tree < k.trees) (sym l.of.0.1) s.prepared.1 in
     let small = small_by w s.tree c.load_row-anchor.result p lt (subst Teaches (sym l.same) l.teaches) in
     let few = s.table.now.sized.0.3 in
     let rows : rows_of (knows c.load_row-anchor.new.pass).plan ≡ rows_of c.args.self.table.now.plan = ap rows_of l.of.0.1 in

@@ -1,6 +1,6 @@
 use Rattle.std.proofs.Common.{◌≡◌}
 use Rattle.lt_seq.specs.Yard.{origin_of}
-use Rattle.lt_manager.proofs.tests.play.Given as goal
+use Rattle.lt_manager.proofs.tests.play_in.Given as goal
 
 -- the pass is the yard's one, with its right
 abbrev pub invariant-loop-call : goal.invariant-loop-call
