@@ -8,10 +8,10 @@ use Rattle.lt_store.specs.declared.answer.Answer.{Answer}
 use Rattle.lt_store.specs.declared.undo.Undo.{Undo}
 use Rattle.lt_store.specs.Rows.{find}
 use Rattle.lt_store.specs.Rerun.{answer_on, map_after, after_ops, after_all, rerun, AreAnswers, AllAreAnswers}
-use Rattle.lt_store.specs.Undoing.{undo_op, undo_of, unwound}
+use Rattle.lt_store.specs.Undoing.{undo_op, undo_of, unwound, CanUnwind}
 use Rattle.lt_store.specs.Clear.{IsClearOf, AreClearOf, AreClearOfAll, AllAreClearOf, Clear}
 use Rattle.lt_store.specs.Book.{Acts, BookView, In, dones, Ascends, IsBook}
-use Rattle.lt_store.proofs.RerunLaws.{swapped, answers_behind, undo_behind, last_of_all, all-append, ops-append, behind_others, before_others, undo_behind_all, answers_behind_all, unwinds}
+use Rattle.lt_store.proofs.RerunLaws.{swapped, answers_behind, undo_behind, last_of_all, all-append, ops-append, behind_others, before_others, undo_behind_all, answers_behind_all, unwinds, can_unwind}
 use Rattle.lt_store.proofs.LiveLaws.{in_middle, in_others, in_changed, in_before, in_behind, dones-append, clear_each, each_clear, ascends_without, ascends_changed, others_differ}
 
 -- the lists of a transaction and of the others
@@ -145,16 +145,26 @@ module _ (book : BookView) (is : IsBook book) (before : List Acts) (a : Acts) (b
     ascends = ascends_without before a behind ascending;
   }
 
+  -- what undoes its puts is what does so behind the others
+  same_undo : a.undo ≡ undo_of (after_all (rerun book.commits) (dones before ++ dones behind)) a.done
+  same_undo =
+      is.undos a mine ∙ sym (undo_behind_all (rerun book.commits) (dones before ++ dones behind) a.done
+      (subst (λ (l : List (List Done)). AllAreClearOf l a.done) (dones-append before behind) (each_clear (before ++ behind) a.done others_clear)))
+
   -- its puts are undone
   pub undone_rows : unwound book.rows a.undo ≡ after_all (rerun book.commits) (dones before ++ dones behind)
   undone_rows =
       let others = after_all (rerun book.commits) (dones before ++ dones behind) in
-      let same : undo_of others a.done ≡ undo_of (rerun book.commits) a.done =
-      undo_behind_all (rerun book.commits) (dones before ++ dones behind) a.done
-      (subst (λ (l : List (List Done)). AllAreClearOf l a.done) (dones-append before behind) (each_clear (before ++ behind) a.done others_clear)) in
       ap (λ (l : List StoreRow). unwound l a.undo) rows_last
-      ∙ ap (λ (us : List Undo). unwound (after_ops others a.done) us) (is.undos a mine ∙ sym same)
+      ∙ ap (λ (us : List Undo). unwound (after_ops others a.done) us) same_undo
       ∙ unwinds others a.done
+
+  -- as they can be
+  pub can_undo : CanUnwind book.rows a.undo
+  can_undo =
+      let others = after_all (rerun book.commits) (dones before ++ dones behind) in
+      subst (λ (l : List StoreRow). CanUnwind l a.undo) (sym rows_last)
+      (subst (λ (us : List Undo). CanUnwind (after_ops others a.done) us) (sym same_undo) (can_unwind others a.done))
 
   pub aborts : (ended gone : List ℕ) → IsBook (record book { rows = unwound book.rows a.undo; live = before ++ behind; ended = ended; gone = gone })
   aborts ended gone = record {

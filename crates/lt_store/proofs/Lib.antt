@@ -10,5 +10,10 @@ pub mod BeginLaws
 pub mod NumberLaws
 pub mod StoreLaws
 pub mod StepLaws
+pub mod EndLaws
+pub mod SerialLaws
+pub mod NumberedLaws
 pub mod MiddleLaws
 pub mod WholeLaws
+pub mod GivingLaws
+pub mod AttemptLaws

@@ -12,3 +12,4 @@ pub mod Acting
 pub mod Store
 pub mod Steps
 pub mod Stepping
+pub mod Standing

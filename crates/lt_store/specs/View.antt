@@ -31,3 +31,7 @@ begun txn (w ∷ ws) =
     if nat_lt w.txn txn then w ∷ begun txn ws
     else if w.txn == txn then w ∷ ws
     else record { txn = txn; done = [] } ∷ w ∷ ws
+
+-- an empty map, with no step yet
+abbrev pub opening : ℕ → StoreView
+opening limit = record { limit = limit; front = []; map = []; commits = []; live = []; ended = []; gone = []; steps = 0 }

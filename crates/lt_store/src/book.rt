@@ -59,6 +59,13 @@ impl Book {
         self.gone.contains(&txn)
     }
 
+    /// Whether the transaction has committed or aborted.
+    pub(crate) fn has_ended(&self, txn: u64) -> bool
+        ensures { result ≡ is_in txn self.now.ended }
+    {
+        self.ended.contains(&txn)
+    }
+
     /// The place of a transaction among the live ones, where it begins if it is not there.
     pub(crate) fn begin(&mut self, txn: u64) -> Result<usize, AllocError>
         requires { Ascends self.old.live }
