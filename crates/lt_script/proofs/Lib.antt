@@ -1,0 +1,10 @@
+pub mod MadeLaws
+pub mod PlayLaws
+pub mod GrammarLaws
+pub mod HeaderLaws
+pub mod FormLaws
+pub mod FrontLaws
+pub mod FaultLaws
+pub mod ExactLaws
+pub mod LengthLaws
+pub mod SeenLaws

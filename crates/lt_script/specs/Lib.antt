@@ -1,0 +1,10 @@
+pub mod Script
+pub mod Grammar
+pub mod Moves
+pub mod Asked
+pub mod Text
+pub mod Play
+pub mod Seen
+pub mod Reading
+pub mod Playing
+pub mod WorkedTexts
