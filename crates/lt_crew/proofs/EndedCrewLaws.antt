@@ -6,6 +6,7 @@ use Rattle.std.specs.List.{AllByRecursion, filter_map, flat_map}
 use Rattle.std.specs.List.Sorted.{IsPermutation, IsNonDecreasingBy}
 use Rattle.std.proofs.lemmas.Bool.{false≢true}
 use Rattle.std.proofs.lemmas.List.Folds.{flat_map-map}
+use Rattle.lt_ranges.specs.declared.key.Key.{Key}
 use Rattle.lt_seq.specs.declared.event.Event.{Event}
 use Rattle.lt_seq.specs.declared.event.Pair.{Pair}
 use Rattle.lt_seq.specs.declared.event.Receipt.{Receipt}
@@ -39,7 +40,7 @@ use Rattle.lt_runner.proofs.TraceRoomLaws.{numbered_txns}
 use Rattle.lt_runner.proofs.WaitingOwnLaws.{waiting_own_all}
 use Rattle.lt_runner.proofs.WholeRunLaws.{ended_turns}
 use Rattle.lt_crew.specs.Caller.{IsCrew}
-use Rattle.lt_crew.specs.RunCrew.{LeadsTo, IsCrewRun, TellsCrewRun, bound_on, notes_told}
+use Rattle.lt_crew.specs.RunCrew.{setting_with, LeadsTo, IsCrewRun, TellsCrewRun, bound_on, notes_told}
 use Rattle.lt_crew.proofs.ComesLaws.{crew_stands}
 use Rattle.lt_crew.proofs.CrewRunLaws.{rounds_stand, rounds_are_a_run}
 use Rattle.lt_crew.proofs.OpeningCrewLaws.{fit_deeds, opening_crew, seats_count}
@@ -67,22 +68,22 @@ none_held Waits (p ∷ ps) none all = absurd (false≢true (sym (none p.owner) �
 -- The run.
 
 -- what all transactions came to
-pub record IsEndedCrew (trace : TraceView) (passes first : ℕ) (history : List Event) (seats : List Seat) : Type 0 where
+pub record IsEndedCrew (trace : TraceView) (passes first : ℕ) (marks : List Key) (history : List Event) (seats : List Seat) : Type 0 where
   pub plays : List Play
-  pub run : IsCrewRun trace passes first history plays
+  pub run : IsCrewRun (setting_with trace passes first marks) trace.lines history plays
   pub outcomes : map ended_as plays ≡ filter_map ended_in (turns_of seats)
 
-pub ended_crew : (trace : TraceView) (passes first : ℕ) (history : List Event) (seats : List Seat) → IsTrace trace →
-    LeadsTo (setting_of trace passes first) [] history (seats_of trace) seats → AllByRecursion IsOver seats →
-    IsEndedCrew trace passes first history seats
-ended_crew trace passes first history seats is_trace leads over =
+pub ended_crew : (trace : TraceView) (passes first : ℕ) (marks : List Key) (history : List Event) (seats : List Seat) → IsTrace trace →
+    LeadsTo (setting_with trace passes first marks) [] history (seats_of trace) seats → AllByRecursion IsOver seats →
+    IsEndedCrew trace passes first marks history seats
+ended_crew trace passes first marks history seats is_trace leads over =
     record { plays = out.0; run = record { run = out.1; locks = keeps_locks setting history stand.legal; nothing = nothing }; outcomes = out.2 }
   where
     setting : Setting
-    setting = setting_of trace passes first
+    setting = setting_with trace passes first marks
 
     deeds : AreFitDeeds setting trace.lines
-    deeds = fit_deeds trace passes first is_trace
+    deeds = fit_deeds trace passes first marks is_trace
 
     crew : IsCrew setting trace.lines history leads.0 seats
     crew = leads.1 trace.lines deeds (opening_crew setting trace.lines deeds (numbered_txns trace is_trace))
@@ -124,22 +125,22 @@ merged_receipts setting history passes closed merged legal rest all order =
     ∙ flat_map-map (λ (list : List Receipt). list) (λ (list : Vec Receipt). list.items) closed.lists.items)) all) order
 
 -- what is told of a crew's run
-pub record IsToldCrew (trace : TraceView) (passes first : ℕ) (history : List Event) (transcript : Transcript) : Type 0 where
-  pub run : TellsCrewRun trace passes first transcript
+pub record IsToldCrew (trace : TraceView) (passes first : ℕ) (marks : List Key) (history : List Event) (transcript : Transcript) : Type 0 where
+  pub run : TellsCrewRun (setting_with trace passes first marks) trace.lines transcript
   pub numbers : map (λ (ended : Ended). ended.txn) transcript.outcomes.items ≡ txns_of trace.lines
   pub few : transcript.places ≤ most_events trace
-  pub notes : notes_told trace passes first transcript ≡ notes_in (setting_of trace passes first) history
+  pub notes : notes_told (setting_with trace passes first marks) transcript ≡ notes_in (setting_with trace passes first marks) history
 
-told_here : (trace : TraceView) (passes first : ℕ) (history : List Event) (seats : List Seat) (views : List PassView) (closed : Closed)
-    (receipts : Vec Receipt) (outcomes : Vec Ended) → IsTrace trace → IsLegal (setting_of trace passes first) history →
-    LeadsTo (setting_of trace passes first) [] history (seats_of trace) seats → AllByRecursion IsOver seats →
-    length history ≤ bound_on (setting_of trace passes first) [] (seats_of trace) → IsRest (setting_of trace passes first) history views closed →
+told_here : (trace : TraceView) (passes first : ℕ) (marks : List Key) (history : List Event) (seats : List Seat) (views : List PassView) (closed : Closed)
+    (receipts : Vec Receipt) (outcomes : Vec Ended) → IsTrace trace → IsLegal (setting_with trace passes first marks) history →
+    LeadsTo (setting_with trace passes first marks) [] history (seats_of trace) seats → AllByRecursion IsOver seats →
+    length history ≤ bound_on (setting_with trace passes first marks) [] (seats_of trace) → IsRest (setting_with trace passes first marks) history views closed →
     IsPermutation (flat_map (λ (list : Vec Receipt). list.items) closed.lists.items) receipts.items →
     IsNonDecreasingBy (λ r. r.place) receipts.items → outcomes.items ≡ filter_map (λ seat. ended_in seat.turn) seats →
-    IsToldCrew trace passes first history (record { receipts = receipts; outcomes = outcomes; places = closed.places; used = closed.used })
-told_here trace passes first history seats views closed receipts outcomes is_trace legal leads over few rest all order ends =
-    let setting = setting_of trace passes first in
-    let ended = ended_crew trace passes first history seats is_trace leads over in
+    IsToldCrew trace passes first marks history (record { receipts = receipts; outcomes = outcomes; places = closed.places; used = closed.used })
+told_here trace passes first marks history seats views closed receipts outcomes is_trace legal leads over few rest all order ends =
+    let setting = setting_with trace passes first marks in
+    let ended = ended_crew trace passes first marks history seats is_trace leads over in
     let told = merged_receipts setting history views closed receipts.items legal rest all order in
     let outs : outcomes.items ≡ map ended_as ended.plays = ends ∙ ended_turns seats ∙ sym ended.outcomes in
     record {
@@ -156,16 +157,16 @@ told_here trace passes first history seats views closed receipts outcomes is_tra
         works + stepped * cost ≤ most → places ≤ most
     bound_is made works stepped one_cost cost most places is few same low = omega (arith, is, few, ap (λ (k : ℕ). stepped * k) same, low)
 
-pub told_crew : (trace : TraceView) (passes first : ℕ) (setting : Setting) (seats_then : List Seat) (history : List Event) (seats : List Seat)
+pub told_crew : (trace : TraceView) (passes first : ℕ) (marks : List Key) (setting : Setting) (seats_then : List Seat) (history : List Event) (seats : List Seat)
     (views : List PassView) (closed : Closed) (receipts : Vec Receipt) (outcomes : Vec Ended) →
-    setting ≡ setting_of trace passes first → seats_then ≡ seats_of trace → IsTrace trace → IsLegal setting history →
+    setting ≡ setting_with trace passes first marks → seats_then ≡ seats_of trace → IsTrace trace → IsLegal setting history →
     LeadsTo setting [] history seats_then seats → AllByRecursion IsOver seats →
     length history ≤ bound_on setting [] seats_then → IsRest setting history views closed →
     IsPermutation (flat_map (λ (list : Vec Receipt). list.items) closed.lists.items) receipts.items →
     IsNonDecreasingBy (λ r. r.place) receipts.items → outcomes.items ≡ filter_map (λ seat. ended_in seat.turn) seats →
-    IsToldCrew trace passes first history (record { receipts = receipts; outcomes = outcomes; places = closed.places; used = closed.used })
-told_crew trace passes first setting seats_then history seats views closed receipts outcomes same is is_trace legal leads over few rest all order ends =
-    told_here trace passes first history seats views closed receipts outcomes is_trace
+    IsToldCrew trace passes first marks history (record { receipts = receipts; outcomes = outcomes; places = closed.places; used = closed.used })
+told_crew trace passes first marks setting seats_then history seats views closed receipts outcomes same is is_trace legal leads over few rest all order ends =
+    told_here trace passes first marks history seats views closed receipts outcomes is_trace
     (subst (λ (s : Setting). IsLegal s history) same legal)
     (subst (λ (s : Setting). LeadsTo s [] history (seats_of trace) seats) same
     (subst (λ (ss : List Seat). LeadsTo setting [] history ss seats) is leads)) over

@@ -6,6 +6,7 @@ use Rattle.std.specs.List.Sorted.{IsStrictlySortedBy}
 use Rattle.std.proofs.lemmas.Bool.{false≢true}
 use Rattle.std.proofs.lemmas.List.{length-map}
 use Rattle.std.proofs.lemmas.Nat.{mul-le}
+use Rattle.lt_ranges.specs.declared.key.Key.{Key}
 use Rattle.lt_seq.specs.Table.{Setting}
 use Rattle.lt_trace.specs.declared.line.Line.{Line}
 use Rattle.lt_trace.specs.declared.line.LineDeed.{LineDeed}
@@ -31,28 +32,28 @@ use Rattle.lt_runner.proofs.TraceLaws.{few_lines}
 use Rattle.lt_runner.proofs.TraceRoomLaws.{few_txns, numbered_txns, most_is_low}
 use Rattle.lt_crew.specs.Rounds.{opened, opening_seats}
 use Rattle.lt_crew.specs.Caller.{IsCrew, IsCrewOf}
-use Rattle.lt_crew.specs.RunCrew.{HasRoomFor}
+use Rattle.lt_crew.specs.RunCrew.{setting_with, HasRoomFor}
 use Rattle.lt_crew.proofs.CrewRunLaws.{rounds_stand}
 
 -- The deeds of a trace fit a table of any number of passes.
 
-fit_again : (trace : TraceView) (passes first : ℕ) (deed : LineDeed) → IsFitDeed (setting_of trace 1 first) deed →
-    IsFitDeed (setting_of trace passes first) deed
-fit_again trace passes first (Try tree range) fit = fit
-fit_again trace passes first (Lock tree range) fit = fit
-fit_again trace passes first End fit = tt
-fit_again trace passes first Abort fit = tt
-fit_again trace passes first (Escalate tree) fit = fit
-fit_again trace passes first Big fit = tt
+fit_again : (trace : TraceView) (passes first : ℕ) (marks : List Key) (deed : LineDeed) → IsFitDeed (setting_of trace 1 first) deed →
+    IsFitDeed (setting_with trace passes first marks) deed
+fit_again trace passes first marks (Try tree range) fit = fit
+fit_again trace passes first marks (Lock tree range) fit = fit
+fit_again trace passes first marks End fit = tt
+fit_again trace passes first marks Abort fit = tt
+fit_again trace passes first marks (Escalate tree) fit = fit
+fit_again trace passes first marks Big fit = tt
 
-all_fit : (trace : TraceView) (passes first : ℕ) (txns : List ℕ) (lines : List Line) → AllByRecursion (IsFit (setting_of trace 1 first) txns) lines →
-    AreFitDeeds (setting_of trace passes first) lines
-all_fit trace passes first txns [] fit = tt
-all_fit trace passes first txns (line ∷ lines) fit =
-    (fit_again trace passes first line.deed fit.0.deed, all_fit trace passes first txns lines fit.1)
+all_fit : (trace : TraceView) (passes first : ℕ) (marks : List Key) (txns : List ℕ) (lines : List Line) → AllByRecursion (IsFit (setting_of trace 1 first) txns) lines →
+    AreFitDeeds (setting_with trace passes first marks) lines
+all_fit trace passes first marks txns [] fit = tt
+all_fit trace passes first marks txns (line ∷ lines) fit =
+    (fit_again trace passes first marks line.deed fit.0.deed, all_fit trace passes first marks txns lines fit.1)
 
-pub fit_deeds : (trace : TraceView) (passes first : ℕ) → IsTrace trace → AreFitDeeds (setting_of trace passes first) trace.lines
-fit_deeds trace passes first is_trace = all_fit trace passes first (txns_of trace.lines) trace.lines (fit_of_trace trace first is_trace)
+pub fit_deeds : (trace : TraceView) (passes first : ℕ) (marks : List Key) → IsTrace trace → AreFitDeeds (setting_with trace passes first marks) trace.lines
+fit_deeds trace passes first marks is_trace = all_fit trace passes first marks (txns_of trace.lines) trace.lines (fit_of_trace trace first is_trace)
 
 plain_line : (setting : Setting) (deed : LineDeed) → IsFitDeed setting deed → IsPlainLine setting deed
 plain_line setting (Try tree range) fit = fit.0
@@ -126,10 +127,10 @@ pub record IsOpenedCrew (setting : Setting) (seats : List Seat) : Type 0 where
   pub few : length seats ≤ 1024
   pub room : HasRoomFor setting [] seats
 
-opened_here : (trace : TraceView) (passes first : ℕ) → IsTrace trace → first ≤ 2 ^ 38 → IsOpenedCrew (setting_of trace passes first) (seats_of trace)
-opened_here trace passes first is_trace low =
-    let setting = setting_of trace passes first in
-    let deeds = fit_deeds trace passes first is_trace in
+opened_here : (trace : TraceView) (passes first : ℕ) (marks : List Key) → IsTrace trace → first ≤ 2 ^ 38 → IsOpenedCrew (setting_with trace passes first marks) (seats_of trace)
+opened_here trace passes first marks is_trace low =
+    let setting = setting_with trace passes first marks in
+    let deeds = fit_deeds trace passes first marks is_trace in
     let header = is_trace.header in
     let trees : trace.trees ≤ 16 = omega arith in
     let txns = few_txns trace is_trace in
@@ -161,10 +162,9 @@ seats_are trace lines trees seats all wide is =
     is ∙ ap (λ (ls : List Line). map (λ txn. opening_seat trees txn (lines_for txn ls)) (txns_of ls)) all
     ∙ ap (λ (n : ℕ). map (λ txn. opening_seat n txn (lines_for txn trace.lines)) (txns_of trace.lines)) wide
 
-pub opened_crew : (trace : TraceView) (passes first : ℕ) (setting : Setting) (lines : List Line) (trees : ℕ) (seats : List Seat) →
-    setting ≡ setting_of trace passes first → lines ≡ trace.lines → trees ≡ trace.trees →
-    seats ≡ map (λ txn. opening_seat trees txn (lines_for txn lines)) (txns_of lines) → IsTrace trace → first ≤ 2 ^ 38 → IsOpenedCrew setting seats
-opened_crew trace passes first setting lines trees seats same all wide is is_trace low =
+-- by other names
+pub opened_seats : (trace : TraceView) (passes first : ℕ) (marks : List Key) (setting : Setting) (seats : List Seat) →
+    setting ≡ setting_with trace passes first marks → seats ≡ seats_of trace → IsTrace trace → first ≤ 2 ^ 38 → IsOpenedCrew setting seats
+opened_seats trace passes first marks setting seats same is is_trace low =
     subst (λ (s : Setting). IsOpenedCrew s seats) (sym same)
-    (subst (IsOpenedCrew (setting_of trace passes first)) (sym (seats_are trace lines trees seats all wide is))
-    (opened_here trace passes first is_trace low))
+    (subst (IsOpenedCrew (setting_with trace passes first marks)) (sym is) (opened_here trace passes first marks is_trace low))

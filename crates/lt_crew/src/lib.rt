@@ -13,12 +13,14 @@ mod play;
 mod playing;
 mod rounds;
 mod run;
+mod run_on;
 mod worker;
 
 pub use caller::callers_turn;
 pub use dealing::deal_round;
 pub use gate::{Gate, OpenGate};
 pub use run::run_crew;
+pub use run_on::run_crew_on;
 pub use worker::Worker;
 
 #[cfg(test)]

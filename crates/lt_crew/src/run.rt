@@ -1,31 +1,19 @@
 //! A crew's whole run.
 ghost use Rattle.std.specs.Prelude.{◌≡◌, ◌≤◌, ◌+◌, ◌^◌, map, IfOk, OnErr};
-ghost use Rattle.std.specs.List.{filter_map};
 ghost use Rattle.lt_trace.specs.Grammar.{txns_of};
-ghost use Rattle.lt_runner.specs.Serial.{ended_in, most_events};
+ghost use Rattle.lt_runner.specs.Serial.{setting_of, most_events};
 ghost use Rattle.lt_watch.specs.Tellings.{after_notes};
 ghost use Rattle.lt_crew.specs.RunCrew.{TellsCrewRun, notes_told};
 
 use crate::gate::Gate;
 use crate::opening::{opening_turns, plan_of};
-use crate::playing::{Played, play_crew};
-use lt_history::{Ended, merge};
-use lt_runner::{Transcript, Turn};
-use lt_seq::{Closed, Pass, Yard};
+use crate::run_on::play_turns;
+use lt_runner::Transcript;
+use lt_seq::Yard;
 use lt_trace::Trace;
-use lt_watch::{Tells, tell_notes};
+use lt_watch::Tells;
 use std::alloc::{AllocError, Global};
 use std::thread::Threads;
-
-/// How the transactions ended.
-fn outcomes_of(alloc: Global, turns: Vec<Turn>) -> Result<Vec<Ended>, AllocError>
-    ensures { IfOk result (λ outcomes. outcomes.items ≡ filter_map (λ seat. ended_in seat.turn) turns.items) }
-{
-    turns
-        .into_iter()
-        .filter_map(Turn::into_ended)
-        .collect(alloc)
-}
 
 /// Plays a trace by a crew of so many workers, over a table of its own. The workers play transactions side by side, each in
 /// a thread, and between two rounds of theirs the caller plays on what was refused and asks for those that wait, until all
@@ -50,34 +38,15 @@ pub fn run_crew<R: Threads + Sync, Y: Yard, T: Tells, G: Gate>(
     requires some { 1 ≤ workers }
     requires most { workers ≤ 16 }
     requires passes { workers + 1 ≤ Y.MOST_PASSES }
-    ensures run { IfOk result (TellsCrewRun trace.now (workers + 1) first) }
+    ensures run { IfOk result (TellsCrewRun (setting_of trace.now (workers + 1) first) trace.now.lines) }
     ensures played_to_end { IfOk result (λ transcript. map (λ ended. ended.txn) transcript.outcomes.items ≡ txns_of trace.now.lines) }
     ensures few { IfOk result (λ transcript. transcript.places ≤ most_events trace.now) }
     ensures told { IfOk result (λ transcript. T.logs watch.new
-        ≡ map (after_notes (notes_told trace.now (workers + 1) first transcript)) (T.logs watch.old)) }
+        ≡ map (after_notes (notes_told (setting_of trace.now (workers + 1) first) transcript)) (T.logs watch.old)) }
     ensures untold { OnErr result (watch.new ≡ watch.old) }
 {
     let plan = plan_of(trace, workers + 1, first);
     let turns = opening_turns(alloc, trace.lines(), plan.trees)?;
-    let (yard, passes) = Y::build(alloc, &plan)?;
-    let Played {
-        passes,
-        turns,
-        notes,
-    } = play_crew(rt, alloc, &yard, passes, turns, gate)?;
-    let Closed {
-        lists,
-        places,
-        used,
-        ..
-    } = yard.close(alloc, passes)?;
-    let receipts = merge(alloc, lists)?;
-    let outcomes = outcomes_of(alloc, turns)?;
-    tell_notes(watch, &notes);
-    Ok(Transcript {
-        receipts,
-        outcomes,
-        places,
-        used,
-    })
+    let made = Y::build(alloc, &plan)?;
+    play_turns(rt, alloc, trace, turns, made, watch, gate)
 }

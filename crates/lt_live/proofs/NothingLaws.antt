@@ -104,4 +104,4 @@ module _ (setting : Setting) (lines : List Line) (history : List Event) (plays :
 
 pub live_leaves_nothing : LiveLeavesNothing
 live_leaves_nothing trace passes first history plays is_trace all =
-    all_leave_nothing _ trace.lines history plays (fit_deeds trace passes first is_trace) all
+    all_leave_nothing _ trace.lines history plays (fit_deeds trace passes first [] is_trace) all

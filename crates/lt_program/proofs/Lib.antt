@@ -1,2 +1,4 @@
 pub mod RunLaws
+pub mod LanguageLaws
 pub mod StatusLaws
+pub mod StoringLaws

@@ -1,5 +1,7 @@
+pub mod Playings
 pub mod Words
 pub mod Refusal
+pub mod Languages
 pub mod Runs
 pub mod Answers
 pub mod Statuses

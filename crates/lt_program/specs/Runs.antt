@@ -1,5 +1,5 @@
 -- Who plays a trace, and what is told of its runs.
-use Rattle.std.specs.Prelude.{◌≡◌, ℕ, ◌+◌, ◌≤◌, List, map, true, false}
+use Rattle.std.specs.Prelude.{◌≡◌, ℕ, List, map, true, false}
 use Rattle.lt_seq.specs.declared.event.Event.{Event}
 use Rattle.lt_seq.specs.declared.event.JoinNote.{JoinNote}
 use Rattle.lt_seq.specs.KeepsLocks.{KeepsLocks}
@@ -9,25 +9,12 @@ use Rattle.lt_trace.specs.Trace.{TraceView}
 use Rattle.lt_history.specs.Text.{text}
 use Rattle.lt_watch.specs.Tellings.{Log, after_notes}
 use Rattle.lt_runner.specs.declared.transcript.Transcript.{Transcript}
-use Rattle.lt_runner.specs.Serial.{serial, ran_text, setting_of}
+use Rattle.lt_runner.specs.Serial.{serial as run_serial, ran_text, setting_of}
 use Rattle.lt_runner.specs.Notes.{notes_in, run_notes}
 use Rattle.lt_runner.specs.Run.{Play, AreAllPlayed, IsRunText, run_text}
 use Rattle.lt_crew.specs.RunCrew.{IsCrewRun, ran_by}
 use Rattle.lt_live.specs.RunLive.{IsLiveRun, ran_by as ran_by_threads}
-use Rattle.lt_program.specs.declared.player.Player.{Player}
-use Rattle.lt_program.specs.declared.player.Player.TheVariants as players
-
--- the plain scheduler, a crew of 1 to 16 workers, or 1 to 16 threads that wait for each other
-abbrev pub MayPlay : Player → Type 0
-MayPlay players.Serial = Unit {0}
-MayPlay (players.Crew workers) = (1 ≤ workers) × (workers ≤ 16)
-MayPlay (players.Live threads) = (1 ≤ threads) × (threads ≤ 16)
-
--- a crew has a pass for each worker, and one for its caller; of threads that wait each has one
-abbrev pub passes_of : Player → ℕ
-passes_of players.Serial = 1
-passes_of (players.Crew workers) = workers + 1
-passes_of (players.Live threads) = threads
+use Rattle.lt_program.specs.Playings.{Playing, serial, crew, live, cut, table_of}
 
 -- It is the text of one legal history in which each transaction is played to its end by the rules of a crew, and no other has an
 -- event. Who is registered when a search begins is not said.
@@ -39,23 +26,24 @@ IsTextOfPlays setting lines written =
 -- It is the text of a run: of one legal history in which each transaction of the trace is played to its end and no
 -- other has an event, where no two transactions ever hold overlapping ranges, each refusal names exactly the other
 -- owners that overlap, and a join takes no held key away and gives none that another holds.
-abbrev pub IsTextOfRun : Player → TraceView → List ℕ → Type 0
-IsTextOfRun players.Serial trace written = IsRunText false (setting_of trace 1 0) trace.lines written
-IsTextOfRun (players.Crew workers) trace written = IsRunText true (setting_of trace (workers + 1) 0) trace.lines written
-IsTextOfRun (players.Live threads) trace written = IsTextOfPlays (setting_of trace threads 0) trace.lines written
+abbrev pub IsTextOfRun : Playing → TraceView → List ℕ → Type 0
+IsTextOfRun serial trace written = IsRunText false (table_of serial trace) trace.lines written
+IsTextOfRun (crew workers) trace written = IsRunText true (table_of (crew workers) trace) trace.lines written
+IsTextOfRun (live threads) trace written = IsTextOfPlays (table_of (live threads) trace) trace.lines written
+IsTextOfRun (cut workers marks) trace written = IsRunText true (table_of (cut workers marks) trace) trace.lines written
 
 -- The plain scheduler has one run of a trace.
 pub record IsSerialRun (trace : TraceView) (written : List ℕ) (notes : List JoinNote) : Type 0 where
-  pub text_is : written ≡ ran_text (serial trace 0)
+  pub text_is : written ≡ ran_text (run_serial trace 0)
   pub notes_are : notes ≡ run_notes trace 0
 
 -- A crew has many. It is the text of one of them, and the notes are those of its joins, by place. Nothing is held at its end.
-pub record IsRunByCrew (trace : TraceView) (passes : ℕ) (written : List ℕ) (notes : List JoinNote) : Type 0 where
+pub record IsRunByCrew (setting : Setting) (lines : List Line) (written : List ℕ) (notes : List JoinNote) : Type 0 where
   pub history : List Event
   pub plays : List Play
-  pub run : IsCrewRun trace passes 0 history plays
-  pub text_is : written ≡ ran_text (ran_by trace passes 0 history plays)
-  pub notes_are : notes ≡ notes_in (setting_of trace passes 0) history
+  pub run : IsCrewRun setting lines history plays
+  pub text_is : written ≡ ran_text (ran_by setting history plays)
+  pub notes_are : notes ≡ notes_in setting history
 
 -- So have threads that wait for each other.
 pub record IsRunByThreads (trace : TraceView) (threads : ℕ) (written : List ℕ) (notes : List JoinNote) : Type 0 where
@@ -65,18 +53,19 @@ pub record IsRunByThreads (trace : TraceView) (threads : ℕ) (written : List �
   pub text_is : written ≡ ran_text (ran_by_threads trace threads 0 history plays)
   pub notes_are : notes ≡ notes_in (setting_of trace threads 0) history
 
--- the text and the notes of a run of the trace by this player
-abbrev pub IsRunOf : Player → TraceView → List ℕ → List JoinNote → Type 0
-IsRunOf players.Serial trace written notes = IsSerialRun trace written notes
-IsRunOf (players.Crew workers) trace written notes = IsRunByCrew trace (workers + 1) written notes
-IsRunOf (players.Live threads) trace written notes = IsRunByThreads trace threads written notes
+-- the text and the notes of a run of the trace that is played so
+abbrev pub IsRunOf : Playing → TraceView → List ℕ → List JoinNote → Type 0
+IsRunOf serial trace written notes = IsSerialRun trace written notes
+IsRunOf (crew workers) trace written notes = IsRunByCrew (table_of (crew workers) trace) trace.lines written notes
+IsRunOf (live threads) trace written notes = IsRunByThreads trace threads written notes
+IsRunOf (cut workers marks) trace written notes = IsRunByCrew (table_of (cut workers marks) trace) trace.lines written notes
 
 -- the watches were told these notes, each once and in this order, but for those that did not fit
 abbrev pub HasTold : List JoinNote → List Log → List Log → Type 0
 HasTold notes before after = after ≡ map (after_notes notes) before
 
 -- The trace was played, this is the run's text, and the watches were told its joins.
-pub record HasPlayed (player : Player) (trace : TraceView) (written : List ℕ) (before after : List Log) : Type 0 where
+pub record HasPlayed (player : Playing) (trace : TraceView) (written : List ℕ) (before after : List Log) : Type 0 where
   pub notes : List JoinNote
   pub run : IsRunOf player trace written notes
   pub told : HasTold notes before after

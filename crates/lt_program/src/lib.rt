@@ -2,12 +2,14 @@
 #![tactic(auto)]
 
 mod answer;
+mod cutting;
 mod making;
 mod player;
 mod playing;
 mod refusal;
 mod running;
 pub mod status;
+mod storing;
 mod unfailing;
 
 pub use running::run;
@@ -16,6 +18,8 @@ pub use unfailing::run_unfailing;
 #[cfg(test)]
 mod tests;
 #[cfg(test)]
+mod tests_of_barriers;
+#[cfg(test)]
 mod tests_of_crews;
 #[cfg(test)]
 mod tests_of_gates;
@@ -23,6 +27,8 @@ mod tests_of_gates;
 mod tests_of_live;
 #[cfg(test)]
 mod tests_of_makers;
+#[cfg(test)]
+mod tests_of_scripts;
 #[cfg(test)]
 mod tests_of_tables;
 #[cfg(test)]

@@ -1,7 +1,11 @@
 //! Who plays a trace, and the text of its run.
 ghost use Rattle.std.specs.Prelude.{◌≡◌, ◌⊎◌, ℕ, List, IfOk, OnErr};
-ghost use Rattle.lt_program.specs.Runs.{MayPlay, HasPlayed, transcript_text};
+ghost use Rattle.lt_trace.specs.Grammar.{IsTrace};
+ghost use Rattle.lt_program.specs.Playings.{MayPlay, playing_of};
+ghost use Rattle.lt_program.specs.Runs.{HasPlayed, transcript_text};
 
+use crate::cutting::run_cut;
+use lt_barrier::Barrier;
 use lt_crew::{Gate, run_crew};
 use lt_history::print;
 use lt_live::run_live;
@@ -22,6 +26,8 @@ pub(crate) enum Player {
     Crew(u32),
     /// So many threads that wait for each other.
     Live(u32),
+    /// A crew of so many workers, over a table whose joins stop at the marks of the barrier.
+    Cut(u32),
 }
 
 /// A run of the trace by this player. Each watch is told the joins of the run.
@@ -29,12 +35,14 @@ fn run_of<R: Threads + Wait + Sync, T: Tells, G: Gate>(
     rt: &R,
     alloc: Global,
     player: Player,
+    barrier: Box<dyn Barrier>,
     trace: &Trace,
     watch: &mut T,
     gate: &G,
 ) -> Result<Transcript, AllocError>
-    requires { MayPlay player }
-    ensures run { IfOk result (λ transcript. HasPlayed player trace.now (transcript_text transcript)
+    requires player { MayPlay player }
+    requires trace { IsTrace trace.now }
+    ensures run { IfOk result (λ transcript. HasPlayed (playing_of player (marks barrier)) trace.now (transcript_text transcript)
         (T.logs watch.old) (T.logs watch.new)) }
     ensures untold { OnErr result (T.logs watch.new ≡ T.logs watch.old) }
 {
@@ -46,6 +54,7 @@ fn run_of<R: Threads + Wait + Sync, T: Tells, G: Gate>(
         Player::Live(threads) => {
             run_live::<R, Manager, T, G>(rt, alloc, trace, 0, threads, watch, gate)
         }
+        Player::Cut(workers) => run_cut(rt, alloc, trace, workers, barrier, watch, gate),
     }
 }
 
@@ -54,15 +63,18 @@ pub(crate) fn played_text<R: Threads + Wait + Sync, T: Tells, G: Gate>(
     rt: &R,
     alloc: Global,
     player: Player,
+    barrier: Box<dyn Barrier>,
     trace: &Trace,
     watch: &mut T,
     gate: &G,
 ) -> Result<Vec<u8>, AllocError>
-    requires { MayPlay player }
-    ensures run { IfOk result (λ text. HasPlayed player trace.now text.items (T.logs watch.old) (T.logs watch.new)) }
-    ensures short { OnErr result ((T.logs watch.new ≡ T.logs watch.old)
-        ⊎ ((text : List ℕ) × HasPlayed player trace.now text (T.logs watch.old) (T.logs watch.new))) }
+    requires player { MayPlay player }
+    requires trace { IsTrace trace.now }
+    ensures run { IfOk result (λ text. HasPlayed (playing_of player (marks barrier)) trace.now text.items
+        (T.logs watch.old) (T.logs watch.new)) }
+    ensures short { OnErr result ((T.logs watch.new ≡ T.logs watch.old) ⊎ ((text : List ℕ)
+        × HasPlayed (playing_of player (marks barrier)) trace.now text (T.logs watch.old) (T.logs watch.new))) }
 {
-    let run = run_of(rt, alloc, player, trace, watch, gate)?;
+    let run = run_of(rt, alloc, player, barrier, trace, watch, gate)?;
     print(alloc, &run.receipts, &run.outcomes, run.places, run.used)
 }

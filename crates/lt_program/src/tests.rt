@@ -1,5 +1,6 @@
 //! What the program writes on worked traces, and where an end fails: the texts here come from outside.
 use crate::run;
+use lt_barrier::MarkBarrier;
 use lt_crew::OpenGate;
 use lt_edge::{MemSink, MemSource};
 use lt_watch::NoWatches;
@@ -53,6 +54,7 @@ pub(crate) fn run_failing<R: Threads + Wait + Sync>(
     let words = owned(alloc, words)?;
     let mut source = MemSource::new(input.as_bytes().to_vec(alloc)?, 16, numbers(alloc, read)?);
     let mut sink = MemSink::new(alloc, 16_384, 8, numbers(alloc, put)?)?;
+    let barrier = Box::new(alloc, MarkBarrier::new(alloc))?;
     let status = run(
         rt,
         alloc,
@@ -61,6 +63,7 @@ pub(crate) fn run_failing<R: Threads + Wait + Sync>(
         &mut sink,
         &mut NoWatches,
         &OpenGate,
+        barrier,
     );
     Ok((status, sink.bytes().to_vec(alloc)?))
 }

@@ -1,6 +1,7 @@
 //! Traces that are made, and watches that are told.
 use crate::run_unfailing;
 use crate::tests::{HEADER, owned, run_failing};
+use lt_barrier::MarkBarrier;
 use lt_crew::OpenGate;
 use lt_edge::{NoFailSink, NoFailSource};
 use lt_watch::{ListWatch, Watchers};
@@ -67,15 +68,16 @@ fn maker_words_must_be_in_range(rt: HostRuntime) -> Result<(), Fail> {
 }
 
 /// The status of a run between ends that never fail, and the joins that a watch of so many items was told.
-fn joins_told<R: Threads + Wait + Sync>(
+pub(crate) fn joins_told<R: Threads + Wait + Sync>(
     rt: &R,
     alloc: Global,
-    header: &str,
-    lines: &str,
+    words: &[&str],
+    input: &str,
     items: usize,
 ) -> Result<(u8, u64), Fail> {
-    let words = owned(alloc, &["serial"])?;
-    let input = format!(in alloc; "{header}{lines}")?;
+    let words = owned(alloc, words)?;
+    let input = String::from_str(alloc, input)?;
+    let barrier = Box::new(alloc, MarkBarrier::new(alloc))?;
     let mut watch = Watchers::new(alloc);
     let list = Box::new(alloc, ListWatch::new(alloc, items)?)?;
     watch.add(list).map_err(|_| "no room for the watch")?;
@@ -89,6 +91,7 @@ fn joins_told<R: Threads + Wait + Sync>(
         &mut sink,
         &mut watch,
         &OpenGate,
+        barrier,
     );
     let told = watch.take_back(0).ok_or("the watch")?;
     Ok((status, told.joins()))
@@ -103,14 +106,11 @@ const JOINED_LINES: &str = "1 lock 0 \"a\" \"a\"\n1 lock 0 \"b\" \"b\"\n1 lock 0
 #[test]
 fn a_watch_is_told_a_join_that_fits(rt: HostRuntime) -> Result<(), Fail> {
     let alloc = rt.alloc();
-    assert_eq!(rt;
-        joins_told(&rt, alloc, LIMIT_OF_TWO, JOINED_LINES, 2)?,
-        (0, 1)
-    );
-    assert_eq!(rt;
-        joins_told(&rt, alloc, LIMIT_OF_TWO, JOINED_LINES, 1)?,
-        (0, 0)
-    );
-    assert_eq!(rt; joins_told(&rt, alloc, HEADER, JOINED_LINES, 2)?, (0, 0));
+    let words = ["serial"];
+    let joined = format!(in alloc; "{LIMIT_OF_TWO}{JOINED_LINES}")?;
+    assert_eq!(rt; joins_told(&rt, alloc, &words, joined.as_str(), 2)?, (0, 1));
+    assert_eq!(rt; joins_told(&rt, alloc, &words, joined.as_str(), 1)?, (0, 0));
+    let apart = format!(in alloc; "{HEADER}{JOINED_LINES}")?;
+    assert_eq!(rt; joins_told(&rt, alloc, &words, apart.as_str(), 2)?, (0, 0));
     Ok(())
 }

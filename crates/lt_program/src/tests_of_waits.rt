@@ -1,6 +1,7 @@
 //! What the program writes where transactions wait, join, fill a buffer or are big: the texts here come from outside.
 use crate::run;
 use crate::tests::{HEADER, run_failing, run_serial};
+use lt_barrier::MarkBarrier;
 use lt_crew::OpenGate;
 use lt_edge::{MemSink, MemSource};
 use lt_watch::NoWatches;
@@ -365,6 +366,7 @@ fn run_on<R: Threads + Wait + Sync>(
     words.push(String::from_str(alloc, "serial")?)?;
     let mut source = MemSource::new(input.to_vec(alloc)?, 16, Vec::new(alloc));
     let mut sink = MemSink::new(alloc, 4096, 64, Vec::new(alloc))?;
+    let barrier = Box::new(alloc, MarkBarrier::new(alloc))?;
     let status = run(
         rt,
         alloc,
@@ -373,6 +375,7 @@ fn run_on<R: Threads + Wait + Sync>(
         &mut sink,
         &mut NoWatches,
         &OpenGate,
+        barrier,
     );
     Ok((status, sink.bytes().to_vec(alloc)?))
 }

@@ -10,20 +10,26 @@ use Rattle.clap.specs.Walk.{Text, Row, is_empty, first_of}
 use Rattle.clap.specs.Simple.{subcommand_of}
 use Rattle.clap.specs.Takes.{takes}
 use Rattle.clap.specs.Faults.{fault_of}
+use Rattle.lt_ranges.specs.declared.key.Key.{Key}
+use Rattle.lt_ranges.specs.declared.key.Key.TheVariants.{Below, Bytes, After, Above}
+use Rattle.lt_ranges.specs.KeyText.{key_text}
 use Rattle.lt_trace.specs.Grammar.{IsNumber}
 use Rattle.lt_trace.specs.Cut.{Lacks}
 use Rattle.lt_trace.proofs.TextLaws.{decimal_lacks}
-use Rattle.lt_words.specs.Words.{AreWorkers, IsCommand, IsMaker, IsRecipe}
+use Rattle.lt_words.specs.Words.{AreCutters, AreWorkers, IsCommand, IsMaker, IsMark, IsRecipe}
 use Rattle.lt_words.specs.Grammar.{grammar}
-use Rattle.lt_words.specs.Reading.{AreGiven, AreWorkersGiven, IsGiven, IsPlain, IsRead, Reads}
+use Rattle.lt_words.specs.Reading.{AreGiven, AreWorkersGiven, IsGiven, IsMarkGiven, IsPlain, IsRead, Reads, SpellsMark}
 use Rattle.lt_words.specs.declared.command.Recipe.{Recipe}
 use Rattle.lt_words.specs.declared.command.Command.{Command}
-use Rattle.lt_words.specs.declared.command.Command.TheVariants.{Serial, Crew, Live, Make, Sum}
+use Rattle.lt_words.specs.declared.command.Command.TheVariants.{Serial, Crew, Live, Cut, Store, Make, Sum}
 use Rattle.lt_words.proofs.ReadingLaws.{differ}
-use Rattle.lt_words.proofs.Taking.{finds_crew, finds_live, finds_make, finds_serial, finds_sum, given, three_given}
-use Rattle.lt_words.proofs.Taking.{takes_crew, takes_live, takes_make, takes_serial, takes_sum, no_word, unknown_word}
-use Rattle.lt_words.proofs.Taking.{crew_alone, live_alone, make_alone, make_with_one, make_with_two, sum_alone, sum_with_one, sum_with_two}
-use Rattle.lt_words.proofs.Refusing.{crew_with_more, live_with_more, make_with_more, serial_with_more, sum_with_more}
+use Rattle.lt_words.proofs.Taking.{finds_crew, finds_cut, finds_live, finds_make, finds_serial, finds_store, finds_sum}
+use Rattle.lt_words.proofs.Taking.{given, two_given, three_given, no_word, unknown_word}
+use Rattle.lt_words.proofs.Taking.{takes_crew, takes_cut, takes_live, takes_make, takes_serial, takes_store, takes_sum}
+use Rattle.lt_words.proofs.Taking.{crew_alone, cut_alone, cut_with_one, live_alone}
+use Rattle.lt_words.proofs.Taking.{make_alone, make_with_one, make_with_two, sum_alone, sum_with_one, sum_with_two}
+use Rattle.lt_words.proofs.Refusing.{crew_with_more, cut_with_more, live_with_more, make_with_more, serial_with_more, store_with_more}
+use Rattle.lt_words.proofs.Refusing.{sum_with_more}
 
 -- no word is empty or begins with `-`
 abbrev pub ArePlain : List Text → Type 0
@@ -34,6 +40,8 @@ data Form : List Text → Type 0 where
   serial : Form (codes "serial" ∷ [])
   crew : (w : Text) → IsPlain w → Form (codes "crew" ∷ w ∷ [])
   live : (w : Text) → IsPlain w → Form (codes "live" ∷ w ∷ [])
+  cut : (w k : Text) → IsPlain w → IsPlain k → Form (codes "cut" ∷ w ∷ k ∷ [])
+  store : Form (codes "store" ∷ [])
   make : (a b c : Text) → IsPlain a → IsPlain b → IsPlain c → Form (codes "make" ∷ a ∷ b ∷ c ∷ [])
   sum : (a b c : Text) → IsPlain a → IsPlain b → IsPlain c → Form (codes "sum" ∷ a ∷ b ∷ c ∷ [])
 
@@ -64,6 +72,20 @@ crew_form ws p e = workers_form (codes "crew") crew_alone crew_with_more crew ws
 
 live_form : (ws : List Text) → ArePlain ws → Passes (codes "live" ∷ ws) → Form (codes "live" ∷ ws)
 live_form ws p e = workers_form (codes "live") live_alone live_with_more live ws p e
+
+cut_form : (ws : List Text) → ArePlain ws → Passes (codes "cut" ∷ ws) → Form (codes "cut" ∷ ws)
+cut_form [] p e = absurd (never _ cut_alone e)
+cut_form ([] ∷ ws) p e = absurd p.0
+cut_form ((x ∷ xs) ∷ []) p e = absurd (never _ (cut_with_one x xs p.0) e)
+cut_form ((x ∷ xs) ∷ k ∷ []) p e = cut (x ∷ xs) k p.0 p.1.0
+cut_form ((x ∷ xs) ∷ [] ∷ z ∷ ws) p e = absurd p.1.0
+cut_form ((x ∷ xs) ∷ (y ∷ ys) ∷ [] ∷ ws) p e = absurd p.1.1.0
+cut_form ((x ∷ xs) ∷ (y ∷ ys) ∷ (z ∷ zs) ∷ ws) p e = absurd (never _ (cut_with_more x y z xs ys zs ws p.0 p.1.0 p.1.1.0) e)
+
+store_form : (ws : List Text) → ArePlain ws → Passes (codes "store" ∷ ws) → Form (codes "store" ∷ ws)
+store_form [] p e = store
+store_form ([] ∷ ws) p e = absurd p.0
+store_form ((x ∷ xs) ∷ ws) p e = absurd (never _ (store_with_more x xs ws p.0) e)
 
 make_form : (ws : List Text) → ArePlain ws → Passes (codes "make" ∷ ws) → Form (codes "make" ∷ ws)
 make_form [] p e = absurd (never _ make_alone e)
@@ -111,7 +133,11 @@ form_taken ((x ∷ xs) ∷ ws) p e =
     (λ no_crew. ⊎_elim (λ is. renamed (codes "live") (x ∷ xs) ws is (live_form ws p.1) e)
     (λ no_live. ⊎_elim (λ is. renamed (codes "make") (x ∷ xs) ws is (make_form ws p.1) e)
     (λ no_make. ⊎_elim (λ is. renamed (codes "sum") (x ∷ xs) ws is (sum_form ws p.1) e)
-    (λ no_sum. absurd (never _ (unknown_word x xs ws p.0 no_serial no_crew no_live no_make no_sum) e))
+    (λ no_sum. ⊎_elim (λ is. renamed (codes "cut") (x ∷ xs) ws is (cut_form ws p.1) e)
+    (λ no_cut. ⊎_elim (λ is. renamed (codes "store") (x ∷ xs) ws is (store_form ws p.1) e)
+    (λ no_store. absurd (never _ (unknown_word x xs ws p.0 no_serial no_crew no_live no_make no_sum no_cut no_store) e))
+    (named (codes "store") (x ∷ xs)))
+    (named (codes "cut") (x ∷ xs)))
     (named (codes "sum") (x ∷ xs)))
     (named (codes "make") (x ∷ xs)))
     (named (codes "live") (x ∷ xs)))
@@ -132,6 +158,25 @@ workers_of : (w : Text) (n : ℕ) → AreWorkersGiven (given (codes "N") w ∷ [
 workers_of w n g name =
     let is = number_of (given (codes "N") w ∷ []) (codes "N") w _ _ _ refl g in
     record { words_are = λ i. name ∷ is.spelled i ∷ []; some_workers = is.from; few_workers = is.up_to }
+
+-- the key of a value
+mark_is : (rows : List Row) (k : Text) (mark : Key) → first_of (codes "KEY") rows ≡ Some k → IsMarkGiven rows mark → SpellsMark k mark
+mark_is rows k mark is g =
+    let found = g.found in
+    let same : g.text ≡ k = cc in
+    subst (λ t. SpellsMark t mark) same g.spells
+
+cutters_of : (w k : Text) (n : ℕ) (mark : Key) → AreWorkersGiven (two_given w k) n → IsMarkGiven (two_given w k) mark
+    → AreCutters (codes "cut" ∷ w ∷ k ∷ []) n mark
+cutters_of w k n mark g h =
+    let is = number_of (two_given w k) (codes "N") w _ _ _ refl g in
+    let at = mark_is (two_given w k) k mark refl h in
+    record {
+      words_are = λ i. codes "cut" ∷ is.spelled i ∷ at.spelled i ∷ [];
+      some_workers = is.from;
+      few_workers = is.up_to;
+      mark_is = at.mark_is;
+    }
 
 recipe_of : (a b c : Text) (recipe : Recipe) → AreGiven (three_given a b c) recipe
     → (name : Text) → IsMaker name (name ∷ a ∷ b ∷ c ∷ []) recipe
@@ -154,6 +199,8 @@ serial_read : (c : Command) → Reads (codes "serial") [] c → IsCommand (codes
 serial_read Serial r = refl
 serial_read (Crew n) r = absurd (differ (codes "serial") (codes "crew") refl r.0)
 serial_read (Live n) r = absurd (differ (codes "serial") (codes "live") refl r.0)
+serial_read (Cut n mark) r = absurd (differ (codes "serial") (codes "cut") refl r.0)
+serial_read Store r = absurd (differ (codes "serial") (codes "store") refl r)
 serial_read (Make recipe) r = absurd (differ (codes "serial") (codes "make") refl r.0)
 serial_read (Sum recipe) r = absurd (differ (codes "serial") (codes "sum") refl r.0)
 
@@ -161,6 +208,8 @@ crew_read : (w : Text) (c : Command) → Reads (codes "crew") (given (codes "N")
 crew_read w Serial r = absurd (differ (codes "crew") (codes "serial") refl r)
 crew_read w (Crew n) r = workers_of w n r.1 (codes "crew")
 crew_read w (Live n) r = absurd (differ (codes "crew") (codes "live") refl r.0)
+crew_read w (Cut n mark) r = absurd (differ (codes "crew") (codes "cut") refl r.0)
+crew_read w Store r = absurd (differ (codes "crew") (codes "store") refl r)
 crew_read w (Make recipe) r = absurd (differ (codes "crew") (codes "make") refl r.0)
 crew_read w (Sum recipe) r = absurd (differ (codes "crew") (codes "sum") refl r.0)
 
@@ -168,14 +217,36 @@ live_read : (w : Text) (c : Command) → Reads (codes "live") (given (codes "N")
 live_read w Serial r = absurd (differ (codes "live") (codes "serial") refl r)
 live_read w (Crew n) r = absurd (differ (codes "live") (codes "crew") refl r.0)
 live_read w (Live n) r = workers_of w n r.1 (codes "live")
+live_read w (Cut n mark) r = absurd (differ (codes "live") (codes "cut") refl r.0)
+live_read w Store r = absurd (differ (codes "live") (codes "store") refl r)
 live_read w (Make recipe) r = absurd (differ (codes "live") (codes "make") refl r.0)
 live_read w (Sum recipe) r = absurd (differ (codes "live") (codes "sum") refl r.0)
+
+cut_read : (w k : Text) (c : Command) → Reads (codes "cut") (two_given w k) c → IsCommand (codes "cut" ∷ w ∷ k ∷ []) c
+cut_read w k Serial r = absurd (differ (codes "cut") (codes "serial") refl r)
+cut_read w k (Crew n) r = absurd (differ (codes "cut") (codes "crew") refl r.0)
+cut_read w k (Live n) r = absurd (differ (codes "cut") (codes "live") refl r.0)
+cut_read w k (Cut n mark) r = cutters_of w k n mark r.1 r.2
+cut_read w k Store r = absurd (differ (codes "cut") (codes "store") refl r)
+cut_read w k (Make recipe) r = absurd (differ (codes "cut") (codes "make") refl r.0)
+cut_read w k (Sum recipe) r = absurd (differ (codes "cut") (codes "sum") refl r.0)
+
+store_read : (c : Command) → Reads (codes "store") [] c → IsCommand (codes "store" ∷ []) c
+store_read Serial r = absurd (differ (codes "store") (codes "serial") refl r)
+store_read (Crew n) r = absurd (differ (codes "store") (codes "crew") refl r.0)
+store_read (Live n) r = absurd (differ (codes "store") (codes "live") refl r.0)
+store_read (Cut n mark) r = absurd (differ (codes "store") (codes "cut") refl r.0)
+store_read Store r = refl
+store_read (Make recipe) r = absurd (differ (codes "store") (codes "make") refl r.0)
+store_read (Sum recipe) r = absurd (differ (codes "store") (codes "sum") refl r.0)
 
 make_read : (a b c : Text) (command : Command) → Reads (codes "make") (three_given a b c) command
     → IsCommand (codes "make" ∷ a ∷ b ∷ c ∷ []) command
 make_read a b c Serial r = absurd (differ (codes "make") (codes "serial") refl r)
 make_read a b c (Crew n) r = absurd (differ (codes "make") (codes "crew") refl r.0)
 make_read a b c (Live n) r = absurd (differ (codes "make") (codes "live") refl r.0)
+make_read a b c (Cut n mark) r = absurd (differ (codes "make") (codes "cut") refl r.0)
+make_read a b c Store r = absurd (differ (codes "make") (codes "store") refl r)
 make_read a b c (Make recipe) r = recipe_of a b c recipe r.1 (codes "make")
 make_read a b c (Sum recipe) r = absurd (differ (codes "make") (codes "sum") refl r.0)
 
@@ -184,6 +255,8 @@ sum_read : (a b c : Text) (command : Command) → Reads (codes "sum") (three_giv
 sum_read a b c Serial r = absurd (differ (codes "sum") (codes "serial") refl r)
 sum_read a b c (Crew n) r = absurd (differ (codes "sum") (codes "crew") refl r.0)
 sum_read a b c (Live n) r = absurd (differ (codes "sum") (codes "live") refl r.0)
+sum_read a b c (Cut n mark) r = absurd (differ (codes "sum") (codes "cut") refl r.0)
+sum_read a b c Store r = absurd (differ (codes "sum") (codes "store") refl r)
 sum_read a b c (Make recipe) r = absurd (differ (codes "sum") (codes "make") refl r.0)
 sum_read a b c (Sum recipe) r = recipe_of a b c recipe r.1 (codes "sum")
 
@@ -200,6 +273,8 @@ read_of_form : (ws : List Text) → Form ws → (c : Command) → IsRead (subcom
 read_of_form _ serial c r = serial_read c (reads_it _ _ _ c finds_serial r)
 read_of_form _ (crew w p) c r = crew_read w c (reads_it _ _ _ c (finds_crew w p) r)
 read_of_form _ (live w p) c r = live_read w c (reads_it _ _ _ c (finds_live w p) r)
+read_of_form _ (cut w k p q) c r = cut_read w k c (reads_it _ _ _ c (finds_cut w k p q) r)
+read_of_form _ store c r = store_read c (reads_it _ _ _ c finds_store r)
 read_of_form _ (make a b d p q s) c r = make_read a b d c (reads_it _ _ _ c (finds_make a b d p q s) r)
 read_of_form _ (sum a b d p q s) c r = sum_read a b d c (reads_it _ _ _ c (finds_sum a b d p q s) r)
 
@@ -279,6 +354,41 @@ live_answers n from up_to =
       };
     }
 
+given_workers_of_two : (n : ℕ) (k : Text) → 1 ≤ n → n ≤ 16 → AreWorkersGiven (two_given (decimal n) k) n
+given_workers_of_two n k from up_to = given_number (two_given (decimal n) k) (codes "N") 1 16 n refl from up_to
+
+given_mark : (w : Text) (mark : Key) → IsMark mark → IsMarkGiven (two_given w (key_text mark)) mark
+given_mark w mark is = record { text = key_text mark; found = refl; spells = record { spelled = refl; mark_is = is } }
+
+-- the key begins with a quotation mark
+plain_mark : (mark : Key) → IsMark mark → IsPlain (key_text mark)
+plain_mark Below is = absurd is
+plain_mark (Bytes bytes) is = refl
+plain_mark (After bytes) is = absurd is
+plain_mark Above is = absurd is
+
+cut_answers : (n : ℕ) (mark : Key) → 1 ≤ n → n ≤ 16 → IsMark mark → Answers (codes "cut" ∷ decimal n ∷ key_text mark ∷ []) (Cut n mark)
+cut_answers n mark from up_to is =
+    let p = plain_number n (omega (arith, up_to)) in
+    let q = plain_mark mark is in
+    record {
+      plain = (refl, (p, (q, tt)));
+      takes_them = takes_cut (decimal n) (key_text mark) p q;
+      reads = record {
+        name = codes "cut";
+        rows = two_given (decimal n) (key_text mark);
+        met = finds_cut (decimal n) (key_text mark) p q;
+        read = (refl, given_workers_of_two n (key_text mark) from up_to, given_mark (decimal n) mark is);
+      };
+    }
+
+store_answers : Answers (codes "store" ∷ []) Store
+store_answers = record {
+  plain = (refl, tt);
+  takes_them = takes_store;
+  reads = record { name = codes "store"; rows = []; met = finds_store; read = refl };
+}
+
 make_answers : (r : Recipe) → IsRecipe r → Answers (codes "make" ∷ decimal r.seed ∷ decimal r.txns ∷ decimal r.lines ∷ []) (Make r)
 make_answers r is =
     let p = plain_number r.seed is.seed in
@@ -315,5 +425,8 @@ pub command_answers : (ws : List Text) (c : Command) → IsCommand ws c → Answ
 command_answers ws Serial is = subst (λ v. Answers v Serial) (sym is) serial_answers
 command_answers ws (Crew n) is = subst (λ v. Answers v (Crew n)) (sym is.words_are) (crew_answers n is.some_workers is.few_workers)
 command_answers ws (Live n) is = subst (λ v. Answers v (Live n)) (sym is.words_are) (live_answers n is.some_workers is.few_workers)
+command_answers ws (Cut n mark) is =
+    subst (λ v. Answers v (Cut n mark)) (sym is.words_are) (cut_answers n mark is.some_workers is.few_workers is.mark_is)
+command_answers ws Store is = subst (λ v. Answers v Store) (sym is) store_answers
 command_answers ws (Make r) is = subst (λ v. Answers v (Make r)) (sym is.words_are) (make_answers r is.ranges)
 command_answers ws (Sum r) is = subst (λ v. Answers v (Sum r)) (sym is.words_are) (sum_answers r is.ranges)

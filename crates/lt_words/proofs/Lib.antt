@@ -1,4 +1,5 @@
 pub mod ListLaws
+pub mod MarkLaws
 pub mod ReadingLaws
 pub mod Taking
 pub mod Refusing

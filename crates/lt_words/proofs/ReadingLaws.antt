@@ -7,11 +7,12 @@ use Rattle.clap.specs.Walk.{Row, Text, first_of, rows_of}
 use Rattle.clap.specs.Matches.{first_value}
 use Rattle.clap.specs.declared.parser.matches.Found.{Found}
 use Rattle.clap.proofs.WalkLemmas.{first_value-rows}
+use Rattle.lt_ranges.specs.declared.key.Key.{Key}
 use Rattle.lt_trace.specs.Grammar.{IsNumber}
-use Rattle.lt_words.specs.Reading.{IsGiven, AreWorkersGiven, AreGiven, Reads}
+use Rattle.lt_words.specs.Reading.{IsGiven, AreWorkersGiven, IsMarkGiven, SpellsMark, AreGiven, Reads}
 use Rattle.lt_words.specs.declared.command.Recipe.{Recipe}
 use Rattle.lt_words.specs.declared.command.Command.{Command}
-use Rattle.lt_words.specs.declared.command.Command.TheVariants.{Serial, Crew, Live, Make, Sum}
+use Rattle.lt_words.specs.declared.command.Command.TheVariants.{Serial, Crew, Live, Cut, Store, Make, Sum}
 
 pub if_none : {X : Type 0} (r : Option X) {P : Type 0} → P → IfNone r P
 if_none None p = p
@@ -51,6 +52,24 @@ pub no_workers : (rows : List Row) (most : ℕ) → most ≡ 16 → ((n : ℕ) �
     → AreWorkersGiven rows n → ⊥
 no_workers rows most is none n given = none n (subst (λ m. IsGiven rows (codes "N") 1 m n) (sym is) given)
 
+-- where no value is the key's, no key is given
+pub no_key : (f : Found) → None ≡ first_value f (codes "KEY") → (mark : Key) → IsMarkGiven (rows_of f) mark → ⊥
+no_key f none mark given = cc (first_value-rows f (codes "KEY"))
+
+-- a key that is given is the text's
+mark_given : (f : Found) (text : Text) (mark : Key) → Some text ≡ first_value f (codes "KEY") → IsMarkGiven (rows_of f) mark
+    → SpellsMark text mark
+mark_given f text mark some given =
+    let known = text_given f (codes "KEY") text some in
+    let same : given.text ≡ text = cc in
+    subst (λ t. SpellsMark t mark) same given.spells
+
+-- where the text is no such key, none is given
+pub no_mark_so : (r : Option Key) (f : Found) (text : Text) → Some text ≡ first_value f (codes "KEY")
+    → IfNone r ((mark : Key) → SpellsMark text mark → ⊥) → IfNone r ((mark : Key) → IsMarkGiven (rows_of f) mark → ⊥)
+no_mark_so None f text some none = λ mark given. none mark (mark_given f text mark some given)
+no_mark_so (Some key) f text some none = tt
+
 -- where one of the numbers is not given, they are not all
 
 pub no_seed : (rows : List Row) → ((n : ℕ) → IsGiven rows (codes "SEED") 0 (2 ^ 64 - 1) n → ⊥) → (recipe : Recipe)
@@ -72,6 +91,8 @@ pub no_crew : (name : Text) (rows : List Row) → name ≡ codes "crew" → ((n 
 no_crew name rows is none Serial r = differ (codes "crew") (codes "serial") refl (sym is ∙ r)
 no_crew name rows is none (Crew n) r = none n r.1
 no_crew name rows is none (Live n) r = differ (codes "crew") (codes "live") refl (sym is ∙ r.0)
+no_crew name rows is none (Cut n mark) r = differ (codes "crew") (codes "cut") refl (sym is ∙ r.0)
+no_crew name rows is none Store r = differ (codes "crew") (codes "store") refl (sym is ∙ r)
 no_crew name rows is none (Make recipe) r = differ (codes "crew") (codes "make") refl (sym is ∙ r.0)
 no_crew name rows is none (Sum recipe) r = differ (codes "crew") (codes "sum") refl (sym is ∙ r.0)
 
@@ -80,14 +101,38 @@ pub no_live : (name : Text) (rows : List Row) → name ≡ codes "live" → ((n 
 no_live name rows is none Serial r = differ (codes "live") (codes "serial") refl (sym is ∙ r)
 no_live name rows is none (Crew n) r = differ (codes "live") (codes "crew") refl (sym is ∙ r.0)
 no_live name rows is none (Live n) r = none n r.1
+no_live name rows is none (Cut n mark) r = differ (codes "live") (codes "cut") refl (sym is ∙ r.0)
+no_live name rows is none Store r = differ (codes "live") (codes "store") refl (sym is ∙ r)
 no_live name rows is none (Make recipe) r = differ (codes "live") (codes "make") refl (sym is ∙ r.0)
 no_live name rows is none (Sum recipe) r = differ (codes "live") (codes "sum") refl (sym is ∙ r.0)
+
+pub no_cut : (name : Text) (rows : List Row) → name ≡ codes "cut" → ((n : ℕ) → AreWorkersGiven rows n → ⊥)
+    → (command : Command) → Reads name rows command → ⊥
+no_cut name rows is none Serial r = differ (codes "cut") (codes "serial") refl (sym is ∙ r)
+no_cut name rows is none (Crew n) r = differ (codes "cut") (codes "crew") refl (sym is ∙ r.0)
+no_cut name rows is none (Live n) r = differ (codes "cut") (codes "live") refl (sym is ∙ r.0)
+no_cut name rows is none (Cut n mark) r = none n r.1
+no_cut name rows is none Store r = differ (codes "cut") (codes "store") refl (sym is ∙ r)
+no_cut name rows is none (Make recipe) r = differ (codes "cut") (codes "make") refl (sym is ∙ r.0)
+no_cut name rows is none (Sum recipe) r = differ (codes "cut") (codes "sum") refl (sym is ∙ r.0)
+
+pub no_cut_at : (name : Text) (rows : List Row) → name ≡ codes "cut" → ((mark : Key) → IsMarkGiven rows mark → ⊥)
+    → (command : Command) → Reads name rows command → ⊥
+no_cut_at name rows is none Serial r = differ (codes "cut") (codes "serial") refl (sym is ∙ r)
+no_cut_at name rows is none (Crew n) r = differ (codes "cut") (codes "crew") refl (sym is ∙ r.0)
+no_cut_at name rows is none (Live n) r = differ (codes "cut") (codes "live") refl (sym is ∙ r.0)
+no_cut_at name rows is none (Cut n mark) r = none mark r.2
+no_cut_at name rows is none Store r = differ (codes "cut") (codes "store") refl (sym is ∙ r)
+no_cut_at name rows is none (Make recipe) r = differ (codes "cut") (codes "make") refl (sym is ∙ r.0)
+no_cut_at name rows is none (Sum recipe) r = differ (codes "cut") (codes "sum") refl (sym is ∙ r.0)
 
 pub no_make : (name : Text) (rows : List Row) → name ≡ codes "make" → ((recipe : Recipe) → AreGiven rows recipe → ⊥)
     → (command : Command) → Reads name rows command → ⊥
 no_make name rows is none Serial r = differ (codes "make") (codes "serial") refl (sym is ∙ r)
 no_make name rows is none (Crew n) r = differ (codes "make") (codes "crew") refl (sym is ∙ r.0)
 no_make name rows is none (Live n) r = differ (codes "make") (codes "live") refl (sym is ∙ r.0)
+no_make name rows is none (Cut n mark) r = differ (codes "make") (codes "cut") refl (sym is ∙ r.0)
+no_make name rows is none Store r = differ (codes "make") (codes "store") refl (sym is ∙ r)
 no_make name rows is none (Make recipe) r = none recipe r.1
 no_make name rows is none (Sum recipe) r = differ (codes "make") (codes "sum") refl (sym is ∙ r.0)
 
@@ -96,5 +141,7 @@ pub no_sum : (name : Text) (rows : List Row) → name ≡ codes "sum" → ((reci
 no_sum name rows is none Serial r = differ (codes "sum") (codes "serial") refl (sym is ∙ r)
 no_sum name rows is none (Crew n) r = differ (codes "sum") (codes "crew") refl (sym is ∙ r.0)
 no_sum name rows is none (Live n) r = differ (codes "sum") (codes "live") refl (sym is ∙ r.0)
+no_sum name rows is none (Cut n mark) r = differ (codes "sum") (codes "cut") refl (sym is ∙ r.0)
+no_sum name rows is none Store r = differ (codes "sum") (codes "store") refl (sym is ∙ r)
 no_sum name rows is none (Make recipe) r = differ (codes "sum") (codes "make") refl (sym is ∙ r.0)
 no_sum name rows is none (Sum recipe) r = none recipe r.1

@@ -58,6 +58,17 @@ pub live_with_more : (x y : ℕ) (xs ys : List ℕ) (ws : List Text) → (x == 4
 unfolding clap_on_literals
 live_with_more x y xs ys ws e f = refused_by_form (codes "live") ((x ∷ xs) ∷ (y ∷ ys) ∷ ws) refl refl (simp (e, f))
 
+pub cut_with_more : (x y z : ℕ) (xs ys zs : List ℕ) (ws : List Text) → (x == 45) ≡ false → (y == 45) ≡ false → (z == 45) ≡ false
+    → is_empty (fault_of grammar (codes "cut" ∷ (x ∷ xs) ∷ (y ∷ ys) ∷ (z ∷ zs) ∷ ws)) ≡ false
+unfolding clap_on_literals
+cut_with_more x y z xs ys zs ws e f g =
+    refused_by_form (codes "cut") ((x ∷ xs) ∷ (y ∷ ys) ∷ (z ∷ zs) ∷ ws) refl refl (simp (e, f, g))
+
+pub store_with_more : (x : ℕ) (xs : List ℕ) (ws : List Text) → (x == 45) ≡ false
+    → is_empty (fault_of grammar (codes "store" ∷ (x ∷ xs) ∷ ws)) ≡ false
+unfolding clap_on_literals
+store_with_more x xs ws e = refused_by_form (codes "store") ((x ∷ xs) ∷ ws) refl refl (simp e)
+
 pub make_with_more : (x y z u : ℕ) (xs ys zs us : List ℕ) (ws : List Text) → (x == 45) ≡ false → (y == 45) ≡ false → (z == 45) ≡ false
     → (u == 45) ≡ false
     → is_empty (fault_of grammar (codes "make" ∷ (x ∷ xs) ∷ (y ∷ ys) ∷ (z ∷ zs) ∷ (u ∷ us) ∷ ws)) ≡ false

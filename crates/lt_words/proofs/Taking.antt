@@ -33,6 +33,16 @@ unfolding clap_on_literals
 takes_live [] p = absurd p
 takes_live (x ∷ xs) p = simp p
 
+pub takes_cut : (w k : Text) → IsPlain w → IsPlain k → takes grammar (codes "cut" ∷ w ∷ k ∷ []) ≡ true
+unfolding clap_on_literals
+takes_cut [] k p q = absurd p
+takes_cut (x ∷ xs) [] p q = absurd q
+takes_cut (x ∷ xs) (y ∷ ys) p q = simp (p, q)
+
+pub takes_store : takes grammar (codes "store" ∷ []) ≡ true
+unfolding clap_on_literals
+takes_store = refl
+
 pub takes_make : (a b c : Text) → IsPlain a → IsPlain b → IsPlain c → takes grammar (codes "make" ∷ a ∷ b ∷ c ∷ []) ≡ true
 unfolding clap_on_literals
 takes_make [] b c p q r = absurd p
@@ -51,6 +61,9 @@ takes_sum (x ∷ xs) (y ∷ ys) (z ∷ zs) p q r = simp (p, q, r)
 abbrev pub given : Text → Text → Row
 given name text = record { id = name; values = text ∷ []; count = None; source = Some CommandLine; reading = AsWritten }
 
+abbrev pub two_given : Text → Text → List Row
+two_given w k = given (codes "N") w ∷ given (codes "KEY") k ∷ []
+
 abbrev pub three_given : Text → Text → Text → List Row
 three_given a b c = given (codes "SEED") a ∷ given (codes "TXNS") b ∷ given (codes "LINES") c ∷ []
 
@@ -67,6 +80,17 @@ pub finds_live : (w : Text) → IsPlain w → subcommand_of grammar (codes "live
 unfolding clap_on_literals
 finds_live [] p = absurd p
 finds_live (x ∷ xs) p = simp p
+
+pub finds_cut : (w k : Text) → IsPlain w → IsPlain k
+    → subcommand_of grammar (codes "cut" ∷ w ∷ k ∷ []) ≡ Some (codes "cut", two_given w k)
+unfolding clap_on_literals
+finds_cut [] k p q = absurd p
+finds_cut (x ∷ xs) [] p q = absurd q
+finds_cut (x ∷ xs) (y ∷ ys) p q = simp (p, q)
+
+pub finds_store : subcommand_of grammar (codes "store" ∷ []) ≡ Some (codes "store", [])
+unfolding clap_on_literals
+finds_store = refl
 
 pub finds_make : (a b c : Text) → IsPlain a → IsPlain b → IsPlain c
     → subcommand_of grammar (codes "make" ∷ a ∷ b ∷ c ∷ []) ≡ Some (codes "make", three_given a b c)
@@ -93,9 +117,10 @@ no_word = refl
 pub unknown_word : (x : ℕ) (xs : List ℕ) (ws : List Text) → (x == 45) ≡ false
     → bytes_eq (codes "serial") (x ∷ xs) ≡ false → bytes_eq (codes "crew") (x ∷ xs) ≡ false
     → bytes_eq (codes "live") (x ∷ xs) ≡ false → bytes_eq (codes "make") (x ∷ xs) ≡ false → bytes_eq (codes "sum") (x ∷ xs) ≡ false
+    → bytes_eq (codes "cut") (x ∷ xs) ≡ false → bytes_eq (codes "store") (x ∷ xs) ≡ false
     → is_empty (fault_of grammar ((x ∷ xs) ∷ ws)) ≡ false
 unfolding clap_on_literals
-unknown_word x xs ws e s c l m u = simp (s, c, l, m, u, e)
+unknown_word x xs ws e s c l m u t r = simp (s, c, l, m, u, t, r, e)
 
 pub crew_alone : is_empty (fault_of grammar (codes "crew" ∷ [])) ≡ false
 unfolding clap_on_literals
@@ -104,6 +129,14 @@ crew_alone = refl
 pub live_alone : is_empty (fault_of grammar (codes "live" ∷ [])) ≡ false
 unfolding clap_on_literals
 live_alone = refl
+
+pub cut_alone : is_empty (fault_of grammar (codes "cut" ∷ [])) ≡ false
+unfolding clap_on_literals
+cut_alone = refl
+
+pub cut_with_one : (x : ℕ) (xs : List ℕ) → (x == 45) ≡ false → is_empty (fault_of grammar (codes "cut" ∷ (x ∷ xs) ∷ [])) ≡ false
+unfolding clap_on_literals
+cut_with_one x xs e = simp e
 
 pub make_alone : is_empty (fault_of grammar (codes "make" ∷ [])) ≡ false
 unfolding clap_on_literals

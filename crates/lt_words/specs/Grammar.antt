@@ -27,11 +27,20 @@ workers_form name = with_rule (bare name) (value (codes "N"))
 abbrev pub maker_form : Text → App
 maker_form name = with_rule (with_rule (with_rule (bare name) (value (codes "SEED"))) (value (codes "TXNS"))) (value (codes "LINES"))
 
+-- `cut`, a number of workers and a key
+abbrev pub cut_form : App
+cut_form = with_rule (with_rule (bare (codes "cut")) (value (codes "N"))) (value (codes "KEY"))
+
+-- `store`
+abbrev pub store_form : App
+store_form = bare (codes "store")
+
 -- the program before it has its forms: the words begin with no name of it, and one of the forms must be there
 abbrev pub program : App
 program = record { top = record (bare_shape (codes "rangelock")) { no_binary_name = true; subcommand_required = true }; subs = [] }
 
 -- the program with its forms
 abbrev pub grammar : App
-grammar = with_subcommand (with_subcommand (with_subcommand (with_subcommand (with_subcommand program serial_form.top)
-    (workers_form (codes "crew")).top) (workers_form (codes "live")).top) (maker_form (codes "make")).top) (maker_form (codes "sum")).top
+grammar = with_subcommand (with_subcommand (with_subcommand (with_subcommand (with_subcommand (with_subcommand (with_subcommand program
+    serial_form.top) (workers_form (codes "crew")).top) (workers_form (codes "live")).top) (maker_form (codes "make")).top)
+    (maker_form (codes "sum")).top) cut_form.top) store_form.top

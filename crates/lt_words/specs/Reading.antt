@@ -1,10 +1,13 @@
 -- What is read of the words that clap took.
 use Rattle.std.specs.Prelude.{◌≡◌, ℕ, ◌^◌, ◌-◌, ◌==◌, false, List, [], ◌∷◌, codes, Some, Option}
 use Rattle.clap.specs.Walk.{Row, Text, first_of}
+use Rattle.lt_ranges.specs.declared.key.Key.{Key}
+use Rattle.lt_ranges.specs.KeyText.{key_text}
 use Rattle.lt_trace.specs.Grammar.{IsNumber}
+use Rattle.lt_words.specs.Words.{IsMark}
 use Rattle.lt_words.specs.declared.command.Recipe.{Recipe}
 use Rattle.lt_words.specs.declared.command.Command.{Command}
-use Rattle.lt_words.specs.declared.command.Command.TheVariants.{Serial, Crew, Live, Make, Sum}
+use Rattle.lt_words.specs.declared.command.Command.TheVariants.{Serial, Crew, Live, Cut, Store, Make, Sum}
 
 -- the word is not empty, and does not begin with `-`
 abbrev pub IsPlain : Text → Type 0
@@ -27,11 +30,24 @@ pub record AreGiven (rows : List Row) (recipe : Recipe) : Type 0 where
 abbrev pub AreWorkersGiven : List Row → ℕ → Type 0
 AreWorkersGiven rows workers = IsGiven rows (codes "N") 1 16 workers
 
+-- the text spells this key, which is one in quotation marks
+pub record SpellsMark (text : List ℕ) (mark : Key) : Type 0 where
+  pub spelled : text ≡ key_text mark
+  pub mark_is : IsMark mark
+
+-- the value spells this key
+pub record IsMarkGiven (rows : List Row) (mark : Key) : Type 0 where
+  pub text : Text
+  pub found : first_of (codes "KEY") rows ≡ Some text
+  pub spells : SpellsMark text mark
+
 -- the form of this name, with these values, is the command
 abbrev pub Reads : Text → List Row → Command → Type 0
 Reads name rows Serial = name ≡ codes "serial"
 Reads name rows (Crew workers) = (name ≡ codes "crew") × AreWorkersGiven rows workers
 Reads name rows (Live workers) = (name ≡ codes "live") × AreWorkersGiven rows workers
+Reads name rows (Cut workers mark) = (name ≡ codes "cut") × AreWorkersGiven rows workers × IsMarkGiven rows mark
+Reads name rows Store = name ≡ codes "store"
 Reads name rows (Make recipe) = (name ≡ codes "make") × AreGiven rows recipe
 Reads name rows (Sum recipe) = (name ≡ codes "sum") × AreGiven rows recipe
 

@@ -4,6 +4,7 @@ ghost use Rattle.lt_words.specs.declared.command.Recipe.{Recipe};
 ghost use Rattle.lt_words.specs.Words.{IsCommand, IsNoCommand, SpellRecipe};
 
 use crate::command::{Command, MOST_WORKERS, Recipe};
+use crate::mark::mark_of;
 use lt_trace::{MOST_DRAWN_LINES, number};
 
 /// The command that the words are, if they are one. It takes no memory.
@@ -14,6 +15,7 @@ pub(crate) fn by_hand(words: &[String]) -> Option<Command>
     match words {
         [word] => single(word.as_str()),
         [word, workers] => with_workers(word.as_str(), workers.as_bytes()),
+        [word, workers, mark] => cutter(word.as_str(), workers.as_bytes(), mark.as_bytes()),
         [word, seed, txns, lines] => maker(
             word.as_str(),
             seed.as_bytes(),
@@ -31,6 +33,8 @@ fn single(word: &str) -> Option<Command>
 {
     if word == "serial" {
         Some(Command::Serial)
+    } else if word == "store" {
+        Some(Command::Store)
     } else {
         None
     }
@@ -46,6 +50,20 @@ fn with_workers(word: &str, workers: &[u8]) -> Option<Command>
         Some(Command::Crew(workers))
     } else if word == "live" {
         Some(Command::Live(workers))
+    } else {
+        None
+    }
+}
+
+/// The command of a word, a number of workers and a key.
+fn cutter(word: &str, workers: &[u8], mark: &[u8]) -> Option<Command>
+    ensures some { IfSome result (IsCommand (word.now ∷ workers.now ∷ mark.now ∷ [])) }
+    ensures none { IfNone result (IsNoCommand (word.now ∷ workers.now ∷ mark.now ∷ [])) }
+{
+    let workers = number(workers, 1, MOST_WORKERS)? as u32;
+    let mark = mark_of(mark)?;
+    if word == "cut" {
+        Some(Command::Cut { workers, mark })
     } else {
         None
     }

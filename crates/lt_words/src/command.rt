@@ -1,4 +1,5 @@
 //! What the words ask for.
+use lt_ranges::Key;
 
 /// The most workers of a crew, and the most threads of a live run.
 pub(crate) const MOST_WORKERS: u64 = 16;
@@ -23,6 +24,10 @@ pub enum Command {
     Crew(u32),
     /// `live N`: play the trace that is read by so many threads that wait for each other, 1 to 16.
     Live(u32),
+    /// `cut N KEY`: play the trace that is read by a crew of so many workers, 1 to 16, with joins that stop at this key.
+    Cut { workers: u32, mark: Key },
+    /// `store`: play the script that is read on a map.
+    Store,
     /// `make SEED TXNS LINES`: make a trace.
     Make(Recipe),
     /// `sum SEED TXNS LINES`: play that trace, and tell the run in one line of numbers.

@@ -3,7 +3,7 @@ ghost use Rattle.std.specs.Prelude.{◌≡◌, IfOk, false};
 ghost use Rattle.clap.specs.Simple.{app_of};
 ghost use Rattle.clap.specs.Walk.{rule_of};
 ghost use Rattle.clap.specs.declared.builder.command.Command.TheViews.{out-Command};
-ghost use Rattle.lt_words.specs.Grammar.{bare, value, workers_form, maker_form, grammar};
+ghost use Rattle.lt_words.specs.Grammar.{bare, value, workers_form, maker_form, cut_form, program, grammar};
 
 use clap::{Arg, Command};
 use std::alloc::{AllocError, Global};
@@ -46,16 +46,35 @@ fn maker_form<'a>(alloc: Global, name: &'a str) -> Result<Command<'a>, AllocErro
         .arg(value(alloc, "LINES"))
 }
 
-/// The program's command line: one of the forms.
-pub(crate) fn grammar<'a>(alloc: Global) -> Result<Command<'a>, AllocError>
-    ensures { IfOk result (λ program. app_of program ≡ grammar) }
+/// The command `cut`, with a number of workers and a key.
+fn cut_form<'a>(alloc: Global) -> Result<Command<'a>, AllocError>
+    ensures app { IfOk result (λ form. app_of form ≡ cut_form) }
+    ensures local { IfOk result (λ form. (out-Command form).has_globals ≡ false) }
+{
+    bare(alloc, "cut")
+        .arg(value(alloc, "N"))?
+        .arg(value(alloc, "KEY"))
+}
+
+/// The program before it has its forms. The words begin with no name of it, and one of the forms must be there.
+fn program<'a>(alloc: Global) -> Command<'a>
+    ensures { app_of result ≡ program }
 {
     bare(alloc, "rangelock")
         .no_binary_name(true)
         .subcommand_required(true)
+}
+
+/// The program's command line: one of the forms.
+pub(crate) fn grammar<'a>(alloc: Global) -> Result<Command<'a>, AllocError>
+    ensures { IfOk result (λ program. app_of program ≡ grammar) }
+{
+    program(alloc)
         .subcommand(bare(alloc, "serial"))?
         .subcommand(workers_form(alloc, "crew")?)?
         .subcommand(workers_form(alloc, "live")?)?
         .subcommand(maker_form(alloc, "make")?)?
-        .subcommand(maker_form(alloc, "sum")?)
+        .subcommand(maker_form(alloc, "sum")?)?
+        .subcommand(cut_form(alloc)?)?
+        .subcommand(bare(alloc, "store"))
 }

@@ -4,6 +4,7 @@
 mod by_hand;
 mod command;
 mod grammar;
+mod mark;
 mod reading;
 mod words;
 

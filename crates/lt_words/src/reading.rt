@@ -3,12 +3,15 @@ ghost use Rattle.std.specs.Prelude.{ℕ, IfSome, IfNone};
 ghost use Rattle.clap.specs.Walk.{rows_of};
 ghost use Rattle.clap.specs.Matches.{found_of};
 ghost use Rattle.clap.specs.Simple.{subcommand_rows_of};
-ghost use Rattle.lt_words.specs.Reading.{IsGiven, AreWorkersGiven, AreGiven, Reads, IsRead};
+ghost use Rattle.lt_ranges.specs.declared.key.Key.{Key};
+ghost use Rattle.lt_words.specs.Reading.{IsGiven, AreWorkersGiven, IsMarkGiven, AreGiven, Reads, IsRead};
 ghost use Rattle.lt_words.specs.declared.command.Recipe.{Recipe};
 ghost use Rattle.lt_words.specs.declared.command.Command.{Command};
 
 use crate::command::{Command, MOST_WORKERS, Recipe};
+use crate::mark::mark_of;
 use clap::ArgMatches;
+use lt_ranges::Key;
 use lt_trace::{MOST_DRAWN_LINES, number};
 
 /// The number that the value of this name is, if it is one from the least to the most.
@@ -25,6 +28,14 @@ fn workers_in(values: &ArgMatches<'_>) -> Option<u32>
     ensures none { IfNone result ((workers : ℕ) → ¬ AreWorkersGiven (rows_of (found_of values.now)) workers) }
 {
     Some(number_in(values, "N", 1, MOST_WORKERS)? as u32)
+}
+
+/// The key that the value is, if it is one in quotation marks.
+fn mark_in(values: &ArgMatches<'_>) -> Option<Key>
+    ensures some { IfSome result (IsMarkGiven (rows_of (found_of values.now))) }
+    ensures none { IfNone result ((mark : Key) → ¬ IsMarkGiven (rows_of (found_of values.now)) mark) }
+{
+    mark_of(values.get_str("KEY")?.as_bytes())
 }
 
 /// The numbers that the values are, if they are ones of which a trace can be made.
@@ -53,6 +64,11 @@ fn form_of(name: &str, values: &ArgMatches<'_>) -> Option<Command>
         "live" => Some(Command::Live(workers_in(values)?)),
         "make" => Some(Command::Make(recipe_in(values)?)),
         "sum" => Some(Command::Sum(recipe_in(values)?)),
+        "cut" => Some(Command::Cut {
+            workers: workers_in(values)?,
+            mark: mark_in(values)?,
+        }),
+        "store" => Some(Command::Store),
         _ => None,
     }
 }

@@ -1,8 +1,9 @@
 //! `rangelock serial` plays the trace on standard input and writes its transcript to standard output, and so do
-//! `rangelock crew` and `rangelock live` by so many threads. `rangelock make` and `rangelock sum` make a trace of three numbers, and write it or the
-//! numbers of its run.
+//! `rangelock crew`, `rangelock live` and `rangelock cut` by so many threads. `rangelock store` plays the script on standard input.
+//! `rangelock make` and `rangelock sum` make a trace of three numbers, and write it or the numbers of its run.
 #![tactic(auto)]
 
+use lt_barrier::MarkBarrier;
 use lt_crew::OpenGate;
 use lt_edge::{ReadSource, WriteSink};
 use lt_program::{run, status};
@@ -16,8 +17,8 @@ use std::{env, io};
 const WATCHED_ITEMS: usize = 65_536;
 
 fn main(rt: HostRuntime) -> ExitCode {
-    let status = match (words(&rt), list_watch(rt.alloc())) {
-        (Ok(words), Ok(list)) => {
+    let status = match (words(&rt), list_watch(rt.alloc()), no_marks(rt.alloc())) {
+        (Ok(words), Ok(list), Ok(barrier)) => {
             let mut watch = Watchers::new(rt.alloc());
             let mut source = ReadSource::new(rt.reader());
             let mut sink = WriteSink::new(io::writer(&rt));
@@ -30,6 +31,7 @@ fn main(rt: HostRuntime) -> ExitCode {
                     &mut sink,
                     &mut watch,
                     &OpenGate,
+                    barrier,
                 ),
                 Err(_) => status::NO_MEMORY,
             };
@@ -39,13 +41,13 @@ fn main(rt: HostRuntime) -> ExitCode {
             }
             status
         }
-        (Err(status), _) => status,
-        (Ok(_), Err(AllocError)) => status::NO_MEMORY,
+        (Err(status), _, _) => status,
+        (Ok(_), _, _) => status::NO_MEMORY,
     };
     if status == status::USAGE {
         // Where standard error fails too, the status alone has to tell.
         let _ = eprintln!(rt;
-            "usage: rangelock serial | crew N | live N | make SEED TXNS LINES | sum SEED TXNS LINES"
+            "usage: rangelock serial | crew N | live N | cut N KEY | store | make SEED TXNS LINES | sum SEED TXNS LINES"
         );
     }
     ExitCode::from(status)
@@ -66,4 +68,9 @@ fn words(rt: &(impl Env + Alloc<A = Global>)) -> Result<Vec<String>, u8> {
 /// A watch that was told nothing.
 fn list_watch(alloc: Global) -> Result<Box<ListWatch>, AllocError> {
     Ok(Box::new(alloc, ListWatch::new(alloc, WATCHED_ITEMS)?)?)
+}
+
+/// A barrier without marks.
+fn no_marks(alloc: Global) -> Result<Box<MarkBarrier>, AllocError> {
+    Ok(Box::new(alloc, MarkBarrier::new(alloc))?)
 }

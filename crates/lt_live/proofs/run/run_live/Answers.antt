@@ -31,7 +31,7 @@ play-requires-clause-deeds g c κs within =
     let same = c.in_ok-yard.ensures.setting ∙ ap setting_is c.plan_of-plan.ensures in
     subst (λ (s : Setting). AreFitDeeds s c.lines-lines.result.now) (sym same)
     (subst (λ (ls : List Line). AreFitDeeds (setting_of c.args.trace.now c.args.workers c.args.first) ls) (sym c.lines-lines.ensures.lines)
-    (fit_deeds c.args.trace.now c.args.workers c.args.first c.lines-lines.ensures.trace))
+    (fit_deeds c.args.trace.now c.args.workers c.args.first [] c.lines-lines.ensures.trace))
 
 pub returns-clause-run : goal.returns-clause-run
 returns-clause-run g c =

@@ -1,4 +1,4 @@
-use Rattle.std.proofs.Common.{arith}
+use Rattle.std.proofs.Common.{arith, refl}
 use Rattle.lt_program.proofs.StatusLaws.{only_status, plays, refuses, breaks, completes, untold, told_or_not, short_told}
 use Rattle.lt_program.proofs.playing.play.Goals as goal
 
@@ -42,3 +42,6 @@ pub returns-clause-told_or_not : goal.returns-clause-told_or_not
 returns-clause-told_or_not g c = λ e.
     short_told _ _ _ 6 c.in-Ok.bytes.items (record { bytes_read = c.in-Ok.ensures.bytes; read = c.in-Ok.ensures.rest }) _ _
     (rw c.deref.ensures.value at c.in-Err.ensures.short)
+
+pub returns-clause-only : goal.returns-clause-only
+returns-clause-only g c = (4, omega arith, refl)

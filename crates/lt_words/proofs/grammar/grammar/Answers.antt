@@ -1,19 +1,21 @@
-use Rattle.std.proofs.Common.{◌≡◌, ◌∙◌, rules, ap, ap₂}
+use Rattle.std.proofs.Common.{◌∙◌, ap, ap₂}
 use Rattle.std.proofs.lemmas.Result.{IfOk-weaker}
-use Rattle.clap.specs.Simple.{App, app_of, with_subcommand}
-use Rattle.lt_words.specs.Grammar.{program}
+use Rattle.clap.specs.Simple.{App, with_subcommand}
 use Rattle.lt_words.proofs.grammar.grammar.Goals as goal
 
 pub returns : goal.returns
 returns c =
-    let top_is : app_of c.subcommand_required.result ≡ program = search rules in
-    let one = c.in_ok-subcommand.ensures.shape c.bare-2.ensures.local
-    ∙ ap₂ with_subcommand top_is (ap (λ (a : App). a.top) c.bare-2.ensures.app) in
+    let one = c.in_ok-subcommand.ensures.shape c.bare.ensures.local
+    ∙ ap₂ with_subcommand c.program.ensures (ap (λ (a : App). a.top) c.bare.ensures.app) in
     let two = c.in_ok-subcommand-2.ensures.shape c.in_ok-workers_form.ensures.local
     ∙ ap₂ with_subcommand one (ap (λ (a : App). a.top) c.in_ok-workers_form.ensures.app) in
     let three = c.in_ok-subcommand-3.ensures.shape c.in_ok-workers_form-2.ensures.local
     ∙ ap₂ with_subcommand two (ap (λ (a : App). a.top) c.in_ok-workers_form-2.ensures.app) in
     let four = c.in_ok-subcommand-4.ensures.shape c.in_ok-maker_form.ensures.local
     ∙ ap₂ with_subcommand three (ap (λ (a : App). a.top) c.in_ok-maker_form.ensures.app) in
-    IfOk-weaker c.subcommand-5.result _ _ (λ r adds. adds.shape c.in_ok-maker_form-2.ensures.local
-    ∙ ap₂ with_subcommand four (ap (λ (a : App). a.top) c.in_ok-maker_form-2.ensures.app)) c.subcommand-5.ensures
+    let five = c.in_ok-subcommand-5.ensures.shape c.in_ok-maker_form-2.ensures.local
+    ∙ ap₂ with_subcommand four (ap (λ (a : App). a.top) c.in_ok-maker_form-2.ensures.app) in
+    let six = c.in_ok-subcommand-6.ensures.shape c.in_ok-cut_form.ensures.local
+    ∙ ap₂ with_subcommand five (ap (λ (a : App). a.top) c.in_ok-cut_form.ensures.app) in
+    IfOk-weaker c.subcommand-7.result _ _ (λ r adds. adds.shape c.bare-2.ensures.local
+    ∙ ap₂ with_subcommand six (ap (λ (a : App). a.top) c.bare-2.ensures.app)) c.subcommand-7.ensures
