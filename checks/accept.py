@@ -1,12 +1,13 @@
 #!/usr/bin/env python3
-"""Says whether a transcript is one legal history in which each transaction plays its lines in their order.
+"""Says whether a transcript is one legal history in which each transaction plays its lines in their order. With a key's text, joins
+stop at that mark.
 
-usage: accept.py TRACE TRANSCRIPT
+usage: accept.py TRACE TRANSCRIPT [KEY]
 """
 
 import sys
 
-from table import WHOLE, Table, Trace
+from table import WHOLE, Table, Trace, key_order
 
 
 class Wrong(Exception):
@@ -97,9 +98,9 @@ def replay(table, deed, txn, words):
     return tree, asked.text(), tail
 
 
-def accept(trace, transcript):
+def accept(trace, transcript, marks=()):
     lines = transcript.split(b"\n")[:-1]
-    table, scripts = Table(trace), {n: Script(n, trace) for n in trace.txns}
+    table, scripts = Table(trace, [key_order(mark) for mark in marks]), {n: Script(n, trace) for n in trace.txns}
     freed = set()
     ends = []
     for line in lines:
@@ -131,7 +132,7 @@ def accept(trace, transcript):
 def main():
     with open(sys.argv[1], "rb") as trace, open(sys.argv[2], "rb") as transcript:
         try:
-            accept(Trace(trace.read()), transcript.read())
+            accept(Trace(trace.read()), transcript.read(), [key.encode() for key in sys.argv[3:]])
         except Wrong as wrong:
             print("refused:", wrong)
             return 1

@@ -113,11 +113,11 @@ class Tree:
             self.end_buffer()
         return self.others(named, asked)
 
-    def join(self):
+    def join(self, marks=()):
         self.end_buffer()
         before, joined = len(self.pairs), []
         for owner, held in self.pairs:
-            if joined and joined[-1][0] == owner:
+            if joined and joined[-1][0] == owner and not any(joined[-1][1].high < mark <= held.low for mark in marks):
                 joined[-1] = (owner, joined[-1][1].hull(held))
             else:
                 joined.append((owner, held))
@@ -147,9 +147,10 @@ class Trace:
 
 
 class Table:
-    """All trees, and the events with their lines."""
+    """All trees, and the events with their lines. Joins stop at the marks, each a key's place in the order."""
 
-    def __init__(self, trace):
+    def __init__(self, trace, marks=()):
+        self.marks = marks
         self.trees = [Tree() for _ in range(trace.trees)]
         self.limit, self.buffer, self.lines = trace.limit, trace.buffer, []
 
@@ -175,5 +176,5 @@ class Table:
         return owners
 
     def join(self, txn, tree):
-        before, after = self.trees[tree].join()
+        before, after = self.trees[tree].join(self.marks)
         self.tell(txn, b"join %d %d %d" % (tree, before, after))

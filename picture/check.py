@@ -131,8 +131,8 @@ def check(writes):
     """All that is wrong, in words."""
     for one in PICTURES:
         yield from check_committed(one, writes)
-    for path in sorted(EXAMPLES.glob("*.text")):
-        yield from check_example(path)
+    for path in sorted(EXAMPLES.glob("*.trace")):
+        yield from check_example(path.with_suffix(".text"))
     yield from check_traces()
     yield from check_refusals()
 
