@@ -14,6 +14,8 @@ EXAMPLES = os.path.join(HERE, "..", "examples")
 RUNS = [
     (["serial"], "deadlock_of_two.trace"),
     (["crew", "2"], "deadlock_of_two.trace"),
+    (["cut", "1", '"d"'], "kept_apart.trace"),
+    (["store"], "transfer.script"),
     (["make", "7", "4", "20"], "empty.trace"),
     (["sum", "7", "4", "20"], "empty.trace"),
 ]
