@@ -4,13 +4,16 @@
 //!
 //! - A handle is in one call at a time, and goes to another thread by an ordering. Each call takes `&mut Handle`, and a `Handle` is `Send`
 //!   and not `Sync`: whatever moves it between threads orders.
-//! - A handle is all 0 bytes or as a call left it. Handles are made of zeros in a list, in which the table is opened, and then moved, each into
-//!   a box of its own; the list is given up, so that there is one of each.
+//! - A handle is all 0 bytes or as a call left it. Handles are made of zeros in a list, in which the table is opened, and stay there; a `Handle` is
+//!   its place in that list, and there is one of each.
 //! - Pointers point to what their lengths say, and are never null: they are those of slices.
-//! - Slices and handles of a call lie apart: keys are shared slices, and the room for holders is a list of the call's own.
+//! - Slices and handles of a call lie apart: the room for holders is a list of the call's own, and so is a copy of the right key.
+//!
+//! Behind `Refusal::Busy` whoever calls backs off, and calls again.
 
 use std::ffi::c_void;
-use std::marker::PhantomData;
+use std::cell::UnsafeCell;
+use std::sync::Arc;
 
 /// How many holders an ask has room for at first.
 const ROOM: usize = 8;
@@ -143,11 +146,18 @@ fn count(answer: RawAnswer) -> Result<u64, Refusal> {
     refusal(answer).map_or(Ok(answer.count), Err)
 }
 
+/// The handles of a table, each in its place.
+struct Places(Box<[UnsafeCell<RawHandle>]>);
+
+// SAFETY: each place is reached by one `Handle` alone.
+unsafe impl Send for Places {}
+unsafe impl Sync for Places {}
+
 /// A thread's part in a table. The table is gone with its last handle.
 pub struct Handle {
-    raw: Box<RawHandle>,
-    /// It may go to another thread, and is not shared.
-    _moved: PhantomData<*mut c_void>,
+    _places: Arc<Places>,
+    /// Its place. A pointer, so that a handle may go to another thread, by `Send` below, and is not shared.
+    raw: *mut RawHandle,
 }
 
 // SAFETY: a handle has no tie to a thread; the library asks that its calls are ordered, which moving it between threads is.
@@ -156,13 +166,17 @@ unsafe impl Send for Handle {}
 /// Opens a table of so many trees with so many handles.
 ///
 /// # Errors
-/// A number out of its range, or want of memory.
+/// A number out of its range (1 to 17 handles), or want of memory.
 pub fn open(handles: usize, trees: u32, limit: u64, buffer: u64) -> Result<Vec<Handle>, Refusal> {
-    let mut raw: Vec<RawHandle> = (0..handles).map(|_| RawHandle { is_open: false, at: std::ptr::null_mut() }).collect();
-    // SAFETY: the list has so many handles, each all 0 bytes, and its pointer is not null.
-    let answer = unsafe { lt_open(raw.as_mut_ptr(), raw.len(), trees, limit, buffer) };
+    if !(1..=17).contains(&handles) {
+        return Err(Refusal::BadArgument);
+    }
+    let shut = || UnsafeCell::new(RawHandle { is_open: false, at: std::ptr::null_mut() });
+    let places = Arc::new(Places((0..handles).map(|_| shut()).collect()));
+    // SAFETY: the list has so many handles, each all 0 bytes, and nobody else has it yet.
+    let answer = unsafe { lt_open(UnsafeCell::raw_get(places.0.as_ptr()), handles, trees, limit, buffer) };
     count(answer)?;
-    Ok(raw.into_iter().map(|raw| Handle { raw: Box::new(raw), _moved: PhantomData }).collect())
+    Ok(places.0.iter().map(|place| Handle { _places: Arc::clone(&places), raw: place.get() }).collect())
 }
 
 impl Handle {
@@ -171,12 +185,13 @@ impl Handle {
     /// # Errors
     /// There was no event, or but joins.
     pub fn ask(&mut self, txn: u64, tree: u32, left: &[u8], right: &[u8]) -> Result<Asked, Refusal> {
+        let right = right.to_vec();
         let mut holders = vec![0; ROOM];
         loop {
             // SAFETY: slices with their lengths, and a handle that nobody else has.
             let answer = unsafe {
                 lt_ask(
-                    &mut *self.raw,
+                    self.raw,
                     txn,
                     tree,
                     left.as_ptr(),
@@ -205,8 +220,9 @@ impl Handle {
     /// # Errors
     /// There was no event.
     pub fn free(&mut self, txn: u64, tree: u32, left: &[u8], right: &[u8], first: bool) -> Result<u64, Refusal> {
+        let right = right.to_vec();
         // SAFETY: slices with their lengths, and a handle that nobody else has.
-        count(unsafe { lt_free(&mut *self.raw, txn, tree, left.as_ptr(), left.len(), right.as_ptr(), right.len(), first) })
+        count(unsafe { lt_free(self.raw, txn, tree, left.as_ptr(), left.len(), right.as_ptr(), right.len(), first) })
     }
 
     /// Joins neighbouring ranges of each owner in the tree, and tells how many ranges are left.
@@ -215,19 +231,19 @@ impl Handle {
     /// There was no event.
     pub fn escalate(&mut self, txn: u64, tree: u32) -> Result<u64, Refusal> {
         // SAFETY: a handle that nobody else has.
-        count(unsafe { lt_escalate(&mut *self.raw, txn, tree) })
+        count(unsafe { lt_escalate(self.raw, txn, tree) })
     }
 
     /// The rows in use.
     pub fn rows_in_use(&mut self) -> u64 {
         // SAFETY: a handle that nobody else has.
-        unsafe { lt_look(&mut *self.raw) }.count
+        unsafe { lt_look(self.raw) }.count
     }
 }
 
 impl Drop for Handle {
     fn drop(&mut self) {
-        // SAFETY: a handle that nobody else has, and that is not used again.
-        unsafe { lt_close(&mut *self.raw) };
+        // SAFETY: a handle that nobody else has, in its place as long as `_places` is there, and that is not used again.
+        unsafe { lt_close(self.raw) };
     }
 }
