@@ -26,3 +26,4 @@ pub mod EstimateLaws
 pub mod TurnedLaws
 pub mod ShowsLaws
 pub mod PathLaws
+pub mod HeldImages

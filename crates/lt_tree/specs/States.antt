@@ -74,6 +74,10 @@ Seizes row v w (HeldBy p) =
 abbrev pub HasWords : View → ℕ → List ℕ → Type 0
 HasWords v r ws = IsIn (has v) r × (words_of (row_at v r) ≡ ws) × (images v r ≡ ws)
 
+-- a row that it holds, with its words
+abbrev pub image_at : View → ℕ → RowImage
+image_at v r = record { row = r; words = words_of (row_at v r) }
+
 -- it holds the tree's anchor alone, with these words
 abbrev pub IsPrepared : View → ℕ → RowImage → Type 0
 IsPrepared v tree anchor = HasWords v tree anchor.words × (anchor.row ≡ tree) × HoldsOnly v tree

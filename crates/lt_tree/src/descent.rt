@@ -1,21 +1,21 @@
 //! The way down, hand over hand.
-ghost use Rattle.std.specs.Prelude.{◌≡◌, ◌≢◌, ◌+◌, ◌<◌, ℕ, List, MatchOption, IfOk, IfErr, [], true};
+ghost use Rattle.std.specs.Prelude.{◌≡◌, ◌≢◌, ◌+◌, ◌<◌, ℕ, List, MatchOption, IfOk, IfErr, Some, [], true};
 ghost use Rattle.lt_ranges.specs.Interval.{overlap};
 ghost use Rattle.lt_seq.specs.Yard.{IsPlan};
 ghost use Rattle.lt_rows.specs.Plan.{sizes_of};
 ghost use Rattle.lt_forest.specs.Forest.{IsTree};
 ghost use Rattle.lt_rows.specs.Nodes.{mode_of, node_of};
-ghost use Rattle.lt_rows.specs.Views.{rows_of};
+ghost use Rattle.lt_rows.specs.Views.{rows_of, IsHeld};
 ghost use Rattle.lt_rows.specs.Teaching.{Teaches};
 ghost use Rattle.lt_rows.specs.Handles.{knows, IsPassOf, IsSamePass};
-ghost use Rattle.lt_tree.specs.States.{HoldsNone, OnlyMet, SeesOn, IsPrepared, IsRefused};
+ghost use Rattle.lt_tree.specs.States.{HoldsNone, OnlyMet, SeesOn, IsPrepared, IsRefused, image_at};
 ghost use Rattle.lt_tree.specs.Puttings.{Backs};
 ghost use Rattle.lt_tree.specs.Descents.{Arrives, Descends, Stays, ShowsAs, GoesTo, free_rows};
 ghost use Rattle.lt_tree.specs.Turnings.{HoldsPath, StaysAs};
 
+use crate::leveling::{LEFT, RIGHT, is_level, level_out};
 use crate::put::put_all;
 use crate::seize::seize;
-use crate::turning::turn_below;
 use lt_ranges::KeyRange;
 use lt_rows::{PackedRange, RangeSide, RowImage, RowPass, RowPlan, RowTable, Take};
 use lt_seq::Fault;
@@ -36,39 +36,43 @@ fn budget(plan: &RowPlan) -> usize
 }
 
 /// The link on which a search goes on from a row, or `None` where the row overlaps the asked range.
-fn next_link(here: &RowImage, asked: &PackedRange) -> Option<u64>
-    ensures { MatchOption result (overlap (node_of here.now.words).range asked.now.range ≡ true)
-        (λ link. GoesTo asked.now.range (node_of here.now.words) link) }
+fn next_link(table: &RowTable, pass: &mut RowPass, row: u32, asked: &PackedRange) -> Option<u64>
+    requires of { IsPassOf table.now pass.old }
+    requires row { IsHeld (knows pass.old) row }
+    ensures of { IsPassOf table.now pass.new × IsSamePass pass.old pass.new }
+    ensures same { knows pass.new ≡ knows pass.old }
+    ensures link { MatchOption result (overlap (node_of (image_at (knows pass.old) row).words).range asked.now.range ≡ true)
+        (λ link. GoesTo asked.now.range (node_of (image_at (knows pass.old) row).words) link) }
 {
-    match here.compare(asked) {
-        RangeSide::Before => Some(here.right()),
+    match table.compare(pass, row, asked) {
+        RangeSide::Before => Some(table.word(pass, row, RIGHT)),
         RangeSide::Meets => None,
-        RangeSide::Behind => Some(here.left()),
+        RangeSide::Behind => Some(table.word(pass, row, LEFT)),
     }
 }
 
-/// Takes the row on a link of the held one. Where steps are left, the two are measured and turned. The answer has the row that stays
-/// held and its child. `Busy` is the one error: the row was met held by another pass.
+/// Takes the row on a link of the held one, and answers its number. Where steps are left, the two are leveled, so that the answer may
+/// be another row, which stands below the held one now. `Busy` is the one error: the row was met held by another pass.
 fn take_child(
     table: &RowTable,
     pass: &mut RowPass,
-    here: &RowImage,
+    here: u32,
     link: u64,
     tree: u32,
     asked: &KeyRange,
     spins: u32,
     steps: usize,
-) -> Result<(RowImage, RowImage), Fault>
+) -> Result<u32, Fault>
     requires of { IsPassOf table.now pass.old }
     requires right { 0 < pass.old.rights }
     requires tree { tree < table.now.plan.trees }
     requires some { link ≢ 0 }
-    requires descends { (above : List ℕ) × Descends (knows pass.old) tree asked.now here.now link steps above }
+    requires descends { (above : List ℕ) × Descends (knows pass.old) tree asked.now (image_at (knows pass.old) here) link steps above }
     ensures of { IsPassOf table.now pass.new × IsSamePass pass.old pass.new }
     ensures sees { SeesOn (knows pass.old) (knows pass.new) }
-    ensures path { IfOk result (λ r. (above : List ℕ) → Descends (knows pass.old) tree asked.now here.now link steps above
-        → HoldsPath (knows pass.new) tree asked.now r.0 r.1 steps above) }
-    ensures stays { IfOk result (λ r. StaysAs tree here.now r.0) }
+    ensures path { IfOk result (λ r. (above : List ℕ) → Descends (knows pass.old) tree asked.now (image_at (knows pass.old) here) link steps above
+        → HoldsPath (knows pass.new) tree asked.now (image_at (knows pass.new) here) (image_at (knows pass.new) r) steps above) }
+    ensures stays { IfOk result (λ _. StaysAs tree (image_at (knows pass.old) here) (image_at (knows pass.new) here)) }
     ensures free { IfOk result (λ _. free_rows (knows pass.new).held + 1 ≡ free_rows (knows pass.old).held) }
     ensures met { IfErr result (λ _. OnlyMet (knows pass.old) (knows pass.new)) }
     ensures refused { IfErr result (λ fault. IsRefused (knows pass.old) (knows pass.new) fault) }
@@ -78,11 +82,26 @@ fn take_child(
         Take::Taken => {}
         Take::HeldBy(holder) => return Err(Fault::Busy { row, holder }),
     }
-    let child = table.load_row(pass, row);
-    if steps == 0 {
-        return Ok((*here, child));
+    let level = is_level(table, pass, tree, here, row);
+    if level || steps == 0 {
+        return Ok(row);
     }
-    Ok(turn_below(table, pass, tree, asked, here, &child))
+    Ok(level_out(table, pass, tree, asked, here, row))
+}
+
+/// The rows at which a search stays.
+fn stop_at(table: &RowTable, pass: &mut RowPass, here: u32, child: u32) -> Stop
+    requires of { IsPassOf table.now pass.old }
+    requires here { IsHeld (knows pass.old) here }
+    requires child { IsHeld (knows pass.old) child }
+    ensures of { IsPassOf table.now pass.new × IsSamePass pass.old pass.new }
+    ensures same { knows pass.new ≡ knows pass.old }
+    ensures stop { result ≡ record { here = image_at (knows pass.old) here; child = Some (image_at (knows pass.old) child) } }
+{
+    Stop {
+        here: table.load_row(pass, here),
+        child: Some(table.load_row(pass, child)),
+    }
 }
 
 /// Goes down. Each child is taken before its parent is put. After as many steps as the table has rows the parents are kept, so
@@ -110,34 +129,32 @@ fn go_down(
     ensures backs { IfErr result (λ _. Backs (knows pass.new) above.new.items) }
     ensures refused { IfErr result (λ fault. IsRefused (knows pass.old) (knows pass.new) fault) }
 {
-    let mut here = *anchor;
-    let mut link = here.left();
+    let mut here = anchor.row;
+    let mut link = anchor.left();
     let mut steps = budget(table.plan());
     while link != 0 {
-        let (stays, child) = match take_child(
-            table, pass, &here, link, anchor.row, asked, spins, steps,
-        ) {
-            Ok(both) => both,
+        let child = match take_child(table, pass, here, link, anchor.row, asked, spins, steps) {
+            Ok(row) => row,
             Err(fault) => {
-                table.put(pass, here.row);
+                table.put(pass, here);
                 return Err(fault);
             }
         };
-        let Some(next) = next_link(&child, packed) else {
-            let child = Some(child);
-            return Ok(Stop { here: stays, child });
+        let Some(next) = next_link(table, pass, child, packed) else {
+            return Ok(stop_at(table, pass, here, child));
         };
         if steps > 0 {
             steps -= 1;
-            table.put(pass, stays.row);
-        } else if above.push(stays.row).is_err() {
-            table.put(pass, stays.row);
-            table.put(pass, child.row);
+            table.put(pass, here);
+        } else if above.push(here).is_err() {
+            table.put(pass, here);
+            table.put(pass, child);
             return Err(Fault::OutOfMemory);
         }
         link = next;
         here = child;
     }
+    let here = table.load_row(pass, here);
     Ok(Stop { here, child: None })
 }
 

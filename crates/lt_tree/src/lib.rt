@@ -6,6 +6,7 @@ mod descent;
 mod estimates;
 mod finish;
 pub mod laws;
+mod leveling;
 mod locked;
 mod part;
 mod pool;
