@@ -27,3 +27,4 @@ pub mod TurnedLaws
 pub mod ShowsLaws
 pub mod PathLaws
 pub mod HeldImages
+pub mod RangeLaws

@@ -1,13 +1,23 @@
 -- Images of a plan that are stored.
-use Rattle.std.specs.Prelude.{◌≡◌, ℕ, List, length}
+use Rattle.std.specs.Prelude.{◌≡◌, ℕ, List, [], ◌∷◌, length}
 use Rattle.lt_rows.specs.declared.view.View.{View}
 use Rattle.lt_rows.specs.declared.image.RowImage.{RowImage}
+use Rattle.lt_rows.specs.Nodes.{SameRange}
 use Rattle.lt_rows.specs.Views.{IsHeld, row_at, has, words_of, gap_of, images, planned_contents, AllHeld}
 use Rattle.lt_tree.specs.States.{OnlyHeld}
 
 -- the words of the rows that it holds
 abbrev pub words_in : View → ℕ → List ℕ
 words_in v r = words_of (row_at v r)
+
+-- the image differs from its row in links and estimates alone
+abbrev pub KeepsRange : View → RowImage → Type 0
+KeepsRange v image = SameRange image.words (words_in v image.row)
+
+-- and so do all of a plan
+abbrev pub KeepRanges : View → List RowImage → Type 0
+KeepRanges v [] = Unit {0}
+KeepRanges v (p ∷ ps) = KeepsRange v p × KeepRanges v ps
 
 -- of the plan's images these are left to be stored
 pub record WritesSome (v w : View) (plan left : List RowImage) : Type 0 where

@@ -1,6 +1,6 @@
 //! Images of rows with other links, and with the estimates of depth that they carry. Nothing is claimed of an estimate.
 ghost use Rattle.std.specs.Prelude.{◌≡◌, ◌≢◌, ◌+◌, ◌-◌, ◌^◌, ◌<◌, IfSome};
-ghost use Rattle.lt_rows.specs.Nodes.{mode_of, node_of};
+ghost use Rattle.lt_rows.specs.Nodes.{mode_of, node_of, SameRange};
 ghost use Rattle.lt_tree.specs.declared.estimates.Side.TheVariants.{Left, Right};
 ghost use Rattle.lt_tree.specs.Turnings.{link_of, with_link, turned_upper, turned_lower, AllLinksSmall, IsSideTo, IsMeasured};
 
@@ -55,6 +55,7 @@ pub(crate) fn relink(image: RowImage, side: Side, link: u32) -> RowImage
     ensures row { result.row ≡ image.row }
     ensures node { node_of result.words ≡ with_link side link (node_of image.words) }
     ensures mode { mode_of result.words ≡ mode_of image.words }
+    ensures range { SameRange result.words image.words }
 {
     let at = match side {
         Side::Left => 17,
@@ -77,6 +78,7 @@ fn estimate(image: &RowImage, side: Side) -> u64 {
 pub(crate) fn re_estimate(image: &RowImage, side: Side, depth: u64) -> RowImage
     ensures row { result.row ≡ image.now.row }
     ensures node { node_of result.words ≡ node_of image.now.words }
+    ensures range { SameRange result.words image.now.words }
 {
     let at = match side {
         Side::Left => 19,
@@ -94,7 +96,8 @@ fn depth(image: &RowImage) -> u64 {
 
 /// The row with the estimate that its child gives it; `None` where the row has it, or is the tree's anchor, which has none.
 pub(crate) fn measure(tree: u32, image: &RowImage, child: &RowImage) -> Option<RowImage>
-    ensures { IfSome result (λ now. IsMeasured tree image.now now × (image.now.row ≢ tree)) }
+    ensures measured { IfSome result (λ now. IsMeasured tree image.now now × (image.now.row ≢ tree)) }
+    ensures range { IfSome result (λ now. SameRange now.words image.now.words) }
 {
     let side = side_to(image, u64::from(child.row) + 1);
     let depth = depth(child);
@@ -134,6 +137,7 @@ fn placed(image: &RowImage) -> Placed
 fn linked(image: &RowImage, links: &Placed) -> RowImage
     ensures row { result.row ≡ image.now.row }
     ensures node { node_of result.words ≡ with_link Right links.now.right (with_link Left links.now.left (node_of image.now.words)) }
+    ensures range { SameRange result.words image.now.words }
 {
     let relinked = relink(*image, Side::Left, links.left);
     relink(relinked, Side::Right, links.right)
@@ -147,6 +151,7 @@ pub(crate) fn turn(row: &RowImage, child: &RowImage, side: Side) -> Turned
     ensures rows { (result.upper.row ≡ child.now.row) × (result.lower.row ≡ row.now.row) }
     ensures upper { node_of result.upper.words ≡ turned_upper side row.now.row (node_of child.now.words) }
     ensures lower { node_of result.lower.words ≡ turned_lower side (node_of child.now.words) (node_of row.now.words) }
+    ensures ranges { SameRange result.upper.words child.now.words × SameRange result.lower.words row.now.words }
 {
     let (above, below) = match side {
         Side::Left => rotate_right(placed(row), placed(child)),

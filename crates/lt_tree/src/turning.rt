@@ -1,5 +1,6 @@
 //! On the way down a row is turned with its child, where the rows below it stand deeper on one side than on the other.
 ghost use Rattle.std.specs.Prelude.{◌≡◌, ◌≢◌, ◌+◌, ◌<◌, MatchOption, IfSome};
+ghost use Rattle.lt_rows.specs.Nodes.{SameRange};
 ghost use Rattle.lt_rows.specs.Handles.{knows, IsPassOf, IsSamePass};
 ghost use Rattle.lt_tree.specs.States.{OnlyMet, SeesOn};
 ghost use Rattle.lt_tree.specs.Descents.{free_rows};
@@ -64,6 +65,7 @@ fn turn_three(
     requires of { IsPassOf table.now pass.old }
     requires tree { tree < table.now.plan.trees }
     requires measured { IsMeasured tree here.now measured }
+    requires range { SameRange measured.words here.now.words }
     requires three { HoldsThree (knows pass.old) tree asked.now here.now row.now deeper.now.side deeper.now.row }
     ensures of { IsPassOf table.now pass.new × IsSamePass pass.old pass.new }
     ensures sees { SeesOn (knows pass.old) (knows pass.new) }
@@ -92,6 +94,7 @@ fn settle_measured(
     requires of { IsPassOf table.now pass.old }
     requires tree { tree < table.now.plan.trees }
     requires measured { IfSome measured (λ now. IsMeasured tree here.now now × (here.now.row ≢ tree)) }
+    requires range { IfSome measured (λ now. SameRange now.words here.now.words) }
     requires pair { HoldsPair (knows pass.old) tree asked.now here.now row.now }
     ensures of { IsPassOf table.now pass.new × IsSamePass pass.old pass.new }
     ensures sees { SeesOn (knows pass.old) (knows pass.new) }

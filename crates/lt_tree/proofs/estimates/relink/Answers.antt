@@ -1,4 +1,4 @@
-use Rattle.std.proofs.Common.{rules, ◌≡◌, ℕ, List, length, set, sym, ap, ◌∙◌, arith}
+use Rattle.std.proofs.Common.{rules, ◌≡◌, ℕ, List, length, set, get_or, get_or-set_other, sym, ap, ◌∙◌, arith}
 use Rattle.lt_rows.specs.Nodes.{node_of, mode_of}
 use Rattle.lt_tree.specs.declared.estimates.Side.{Side}
 use Rattle.lt_tree.specs.Turnings.{with_link}
@@ -24,4 +24,12 @@ returns-clause-mode c =
     elim c.match-side.branch [
       | in-Left w ↦ ap (λ (i : ℕ). mode_of (set ws i c.from.result)) w.at-is ∙ mode_set ws 17 c.from.result (omega arith) (omega arith)
       | in-Right w ↦ ap (λ (i : ℕ). mode_of (set ws i c.from.result)) w.at-is ∙ mode_set ws 18 c.from.result (omega arith) (omega arith)
+    ]
+
+pub returns-clause-range : goal.returns-clause-range
+returns-clause-range c k less =
+    let ws : List ℕ = c.args.image.words in
+    elim c.match-side.branch [
+      | in-Left w ↦ ap (λ (i : ℕ). get_or (set ws i c.from.result) k 0) w.at-is ∙ get_or-set_other ws 17 k c.from.result 0 (λ e. omega (arith, less))
+      | in-Right w ↦ ap (λ (i : ℕ). get_or (set ws i c.from.result) k 0) w.at-is ∙ get_or-set_other ws 18 k c.from.result 0 (λ e. omega (arith, less))
     ]

@@ -1,6 +1,7 @@
 use Rattle.std.proofs.Common.{◌<◌, ℕ, sym, subst, ap, ◌≢◌, ◌∙◌, [], ◌∷◌}
 use Rattle.std.specs.Prelude.{Option, IfSome}
 use Rattle.lt_rows.specs.declared.image.RowImage.{RowImage}
+use Rattle.lt_rows.specs.Nodes.{SameRange}
 use Rattle.lt_rows.specs.Views.{row_at}
 use Rattle.lt_tree.specs.Turnings.{IsMeasured}
 use Rattle.lt_tree.proofs.SettledGaps.{free_settled}
@@ -12,6 +13,7 @@ use Rattle.lt_rows.proofs.Planned.{held_row}
 use Rattle.lt_tree.proofs.SeenLaws.{seen_same}
 use Rattle.lt_tree.proofs.EstimateLaws.{measured_settles}
 use Rattle.lt_tree.proofs.ShowsLaws.{stays_same, stays_measured}
+use Rattle.lt_tree.proofs.RangeLaws.{keeps_range}
 use Rattle.lt_tree.proofs.turning.settle_measured.Goals as goal
 
 pub settle_rows-requires-clause-held : goal.settle_rows-requires-clause-held
@@ -19,6 +21,12 @@ settle_rows-requires-clause-held c =
     let m = subst (λ (x : Option RowImage). IfSome x (λ now. IsMeasured c.args.tree c.args.here.now now × (c.args.here.now.row ≢ c.args.tree))) c.in-Some.is c.requires.measured in
     let h = held_row (knows c.args.pass.now) c.args.here.now.row c.requires.pair.has.0 in
     ((h.0, ap (λ (r : ℕ). row_at (knows c.args.pass.now) r) m.0.0 ∙ h.1), tt)
+
+pub settle_rows-requires-clause-ranges : goal.settle_rows-requires-clause-ranges
+settle_rows-requires-clause-ranges c =
+    let m = subst (λ (x : Option RowImage). IfSome x (λ now. IsMeasured c.args.tree c.args.here.now now × (c.args.here.now.row ≢ c.args.tree))) c.in-Some.is c.requires.measured in
+    let r = subst (λ (x : Option RowImage). IfSome x (λ now. SameRange now.words c.args.here.now.words)) c.in-Some.is c.requires.range in
+    (keeps_range (knows c.args.pass.now) c.in-Some.stays c.args.here.now.row c.args.here.now.words c.requires.pair.has m.0.0 r, tt)
 
 pub settle_rows-requires-clause-lawful : goal.settle_rows-requires-clause-lawful
 settle_rows-requires-clause-lawful c =

@@ -1,4 +1,4 @@
-use Rattle.std.proofs.Common.{◌<◌, sym, subst, [], ◌∷◌}
+use Rattle.std.proofs.Common.{◌<◌, sym, subst, [], ◌∷◌, ◌∙◌}
 use Rattle.lt_rows.specs.declared.row_plan.RowPlan.{RowPlan}
 use Rattle.lt_rows.specs.Views.{rows_of}
 use Rattle.lt_rows.specs.Lawful.{IsSettle}
@@ -7,6 +7,7 @@ use Rattle.lt_tree.proofs.DeeperLaws.{gap_in, links_small}
 use Rattle.lt_tree.proofs.TurningLaws.{turn_settles}
 use Rattle.lt_tree.proofs.TurnedLaws.{is_turn, turn_once, turn_held, turned_pair, turned_free}
 use Rattle.lt_tree.proofs.ShowsLaws.{stays_turned}
+use Rattle.lt_tree.proofs.RangeLaws.{keeps_range, range_on}
 use Rattle.lt_tree.proofs.turning.turn_three.Goals as goal
 
 pub turn-requires-clause-links : goal.turn-requires-clause-links
@@ -28,6 +29,17 @@ settle_rows-requires-clause-held c =
     c.turn.ensures.rows c.turn.ensures.upper c.turn.ensures.lower in
     turn_held (knows c.args.pass.now) (knows c.args.pass.now) c.args.tree c.args.asked.now c.args.here.now c.args.row.now c.args.deeper.now.row c.relink-stays.result
     c.turn.result.upper c.turn.result.lower c.args.deeper.now.side c.side_to-side.result t
+
+pub settle_rows-requires-clause-ranges : goal.settle_rows-requires-clause-ranges
+settle_rows-requires-clause-ranges c =
+    let v = knows c.args.pass.now in
+    let h = c.requires.three in (
+      keeps_range v c.relink-stays.result c.args.here.now.row c.args.here.now.words h.has (c.relink-stays.ensures.row ∙ c.requires.measured.0)
+          (range_on c.relink-stays.result.words c.args.measured.words c.args.here.now.words c.relink-stays.ensures.range c.requires.range),
+      keeps_range v c.turn.result.upper c.args.deeper.now.row.row c.args.deeper.now.row.words h.low_has c.turn.ensures.rows.0 c.turn.ensures.ranges.0,
+      keeps_range v c.turn.result.lower c.args.row.now.row c.args.row.now.words h.child_has c.turn.ensures.rows.1 c.turn.ensures.ranges.1,
+      tt,
+    )
 
 pub settle_rows-requires-clause-lawful : goal.settle_rows-requires-clause-lawful
 settle_rows-requires-clause-lawful c =
