@@ -36,9 +36,10 @@ settle_rows-requires-clause-ranges c =
     let h = c.requires.three in (
       keeps_range v c.relink-stays.result c.args.here.now.row c.args.here.now.words h.has (c.relink-stays.ensures.row ∙ c.requires.measured.0)
           (range_on c.relink-stays.result.words c.args.measured.words c.args.here.now.words c.relink-stays.ensures.range c.requires.range),
-      keeps_range v c.turn.result.upper c.args.deeper.now.row.row c.args.deeper.now.row.words h.low_has c.turn.ensures.rows.0 c.turn.ensures.ranges.0,
-      keeps_range v c.turn.result.lower c.args.row.now.row c.args.row.now.words h.child_has c.turn.ensures.rows.1 c.turn.ensures.ranges.1,
-      tt,
+      (
+        keeps_range v c.turn.result.upper c.args.deeper.now.row.row c.args.deeper.now.row.words h.low_has c.turn.ensures.rows.0 c.turn.ensures.ranges.0,
+        (keeps_range v c.turn.result.lower c.args.row.now.row c.args.row.now.words h.child_has c.turn.ensures.rows.1 c.turn.ensures.ranges.1, tt),
+      ),
     )
 
 pub settle_rows-requires-clause-lawful : goal.settle_rows-requires-clause-lawful
