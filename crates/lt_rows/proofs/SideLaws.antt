@@ -1,9 +1,10 @@
 -- Words that pack a key lie where the key does.
-use Rattle.std.proofs.Common.{◌≡◌, ℕ, Bool, true, false, List, not, refl, sym, ap, ◌∙◌, subst, arith, ◌⊎◌, inl, inr}
-use Rattle.std.specs.Prelude.{◌&&◌}
+use Rattle.std.proofs.Common.{◌≡◌, ℕ, ◌<◌, Bool, true, false, List, [], ◌∷◌, not, refl, sym, ap, ◌∙◌, subst, arith, ◌⊎◌, inl, inr}
+use Rattle.std.specs.Prelude.{◌&&◌, slice_index}
+use Rattle.std.proofs.lemmas.Bool.Decides.{nat_tests}
 use Rattle.std.specs.declared.cmp.Ordering.{Ordering}
 use Rattle.std.specs.declared.cmp.Ordering.TheVariants.{Less, Equal, Greater}
-use Rattle.std.specs.Ordering.{nat_cmp, is_le, is_lt, is_gt, ordering_reverse}
+use Rattle.std.specs.Ordering.{nat_cmp, is_le, is_lt, is_gt, ordering_reverse, ordering_then}
 use Rattle.std.specs.Cmp.Lexicographic.{slice_cmp}
 use Rattle.lt_ranges.specs.declared.key.Key.{Key}
 use Rattle.lt_ranges.specs.Key.{key_cmp, key_le}
@@ -22,6 +23,23 @@ use Rattle.lt_rows.specs.Packing.{PacksKey}
 read_again : (words : List ℕ) (p : PacksKey words) → key_of words ≡ p.0
 unfolding key_of
 read_again words p = ap or_below (ap unpacked (sym p.2) ∙ unpacked_again p.0 p.1)
+
+-- where the first numbers of two lists differ, they tell the order
+pub first_less : (xs ys : List ℕ) → slice_index xs 0 < slice_index ys 0 → slice_cmp nat_cmp xs ys ≡ Less
+first_less xs [] lt = absurd (omega arith)
+first_less [] (y ∷ ys) lt = refl
+first_less (x ∷ xs) (y ∷ ys) lt = ap (λ (o : Ordering). ordering_then o (slice_cmp nat_cmp xs ys)) (less x y lt)
+  where
+    less : (x y : ℕ) → x < y → nat_cmp x y ≡ Less
+    less x y lt = grind (arith, nat_tests)
+
+pub first_more : (xs ys : List ℕ) → slice_index ys 0 < slice_index xs 0 → slice_cmp nat_cmp xs ys ≡ Greater
+first_more [] ys lt = absurd (omega arith)
+first_more (x ∷ xs) [] lt = refl
+first_more (x ∷ xs) (y ∷ ys) lt = ap (λ (o : Ordering). ordering_then o (slice_cmp nat_cmp xs ys)) (more x y lt)
+  where
+    more : (x y : ℕ) → y < x → nat_cmp x y ≡ Greater
+    more x y lt = grind (arith, nat_tests)
 
 -- The words of a key, and those of another.
 module _ (words ws : List ℕ) (other : Key) (p : PacksKey words) (q : IsValid other × (ws ≡ packed other))

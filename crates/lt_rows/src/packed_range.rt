@@ -33,8 +33,8 @@ impl PackedRange {
         }
     }
 
-    /// The side on which the key of eight words lies, where they pack one.
-    fn side_of_words(&self, words: &[u64]) -> RangeSide
+    /// The side on which the key of eight words lies, where they pack one, by all its words.
+    fn side_of_all(&self, words: &[u64]) -> RangeSide
         requires { PacksKey words.now }
         ensures { IsSideOf (at (key_of words.now)) self.now.range result }
     {
@@ -44,6 +44,21 @@ impl PackedRange {
             RangeSide::Before
         } else {
             RangeSide::Meets
+        }
+    }
+
+    /// The side on which the key of eight words lies, where they pack one. Mostly the first word tells.
+    fn side_of_words(&self, words: &[u64]) -> RangeSide
+        requires long { length words.now ≡ 8 }
+        requires packs { PacksKey words.now }
+        ensures { IsSideOf (at (key_of words.now)) self.now.range result }
+    {
+        if self.right[0] < words[0] {
+            RangeSide::Behind
+        } else if words[0] < self.left[0] {
+            RangeSide::Before
+        } else {
+            self.side_of_all(words)
         }
     }
 

@@ -1,9 +1,9 @@
 //! Words that pack keys: a quick test for them, and the key that they are read as.
-ghost use Rattle.std.specs.Prelude.{◌≡◌, IsTrue, length, map, slice_index};
+ghost use Rattle.std.specs.Prelude.{◌≡◌, ◌≤◌, IsTrue, length, map, slice_index};
 ghost use Rattle.std.specs.Int.{w64, to_be_bytes};
 ghost use Rattle.lt_ranges.specs.Packing.{coded};
 ghost use Rattle.lt_rows.specs.Nodes.{key_of};
-ghost use Rattle.lt_rows.specs.Packing.{EndsIn, IsFilled, PacksKey};
+ghost use Rattle.lt_rows.specs.Packing.{AreBare, EndsIn, IsFilled, PacksKey, PacksShort};
 
 use lt_ranges::{KEY_WORDS, Key};
 
@@ -62,7 +62,9 @@ pub(crate) fn read_key(words: &[u64]) -> Key
     requires { length words.now ≡ 8 }
     ensures { result ≡ key_of words.now }
 {
-    if packs_key(words) {
+    if packs_short(words) {
+        short_key(words)
+    } else if packs_by_code(words) {
         packed_key(words)
     } else {
         unpacked_key(words)
@@ -90,8 +92,8 @@ fn is_filled(words: &[u64], count: usize, filling: u64, last: u64) -> bool
 }
 
 /// Whether eight words pack a key, by its code, which is the last byte: behind the bytes of a key all is 0, and behind those of an
-/// end all is 255. No key is unpacked.
-pub(crate) fn packs_key(words: &[u64]) -> bool
+/// end all is 255.
+fn packs_by_code(words: &[u64]) -> bool
     requires { length words.now ≡ 8 }
     ensures { IsTrue result → PacksKey words.now }
 {
@@ -106,4 +108,43 @@ pub(crate) fn packs_key(words: &[u64]) -> bool
         ),
         _ => false,
     }
+}
+
+/// Whether the six words between the first and the last are 0.
+fn are_bare(words: &[u64]) -> bool
+    requires { length words.now ≡ 8 }
+    ensures { IsTrue result → AreBare words.now }
+{
+    words[1] | words[2] | words[3] | words[4] | words[5] | words[6] == 0
+}
+
+/// Whether eight words pack the least key, or one of up to eight bytes. Its bytes stand in the first word, and the last is its code.
+fn packs_short(words: &[u64]) -> bool
+    requires { length words.now ≡ 8 }
+    ensures { IsTrue result → PacksShort words.now }
+{
+    let code = words[KEY_WORDS - 1];
+    code <= 9 && are_bare(words) && ends_in(words[0], (code as usize).saturating_sub(1), 0)
+}
+
+/// The key that eight words pack, which has up to eight bytes or is the least.
+fn short_key(words: &[u64]) -> Key
+    requires long { length words.now ≡ 8 }
+    requires packs { PacksShort words.now }
+    ensures { result ≡ key_of words.now }
+{
+    let code = words[KEY_WORDS - 1] as usize;
+    if code == 0 {
+        return Key::Below;
+    }
+    let bytes = words[0].to_be_bytes();
+    Key::new(&bytes[..code - 1]).unwrap_or(Key::Below)
+}
+
+/// Whether eight words pack a key. Those of a short one are told by a few tests, and no key is unpacked.
+pub(crate) fn packs_key(words: &[u64]) -> bool
+    requires { length words.now ≡ 8 }
+    ensures { IsTrue result → PacksKey words.now }
+{
+    packs_short(words) || packs_by_code(words)
 }

@@ -10,11 +10,14 @@ use crate::range_side::RangeSide;
 use lt_ranges::{KEY_WORDS, Key, KeyRange};
 
 /// The range from one key to the greater of the two.
-#[tactic(auto, using(crate::proofs::NodeRanges::below_greater))]
+#[tactic(auto, using(lt_ranges::proofs::KeyLaws::le_itself))]
 fn upwards(left: &Key, right: &Key) -> KeyRange
     ensures { result ≡ upwards left.now right.now }
 {
-    match KeyRange::new(*left, left.greater(*right)) {
+    if let Ok(range) = KeyRange::new(*left, *right) {
+        return range;
+    }
+    match KeyRange::new(*left, *left) {
         Ok(range) => range,
         Err(_) => unreachable!(),
     }
@@ -37,12 +40,25 @@ impl RowImage {
         read_key(&self.words[at..at + KEY_WORDS])
     }
 
-    /// The range that the row holds: from its left key to the greater of the two.
+    /// The left end of the range that the row holds.
+    #[tactic(auto, unfolding(crate::specs::Nodes::node_of))]
+    pub fn left_key(&self) -> Key
+        ensures { result ≡ (node_of self.now.words).range.left }
+    {
+        self.key(1)
+    }
+
+    /// The range that the row holds: from its left key to the greater of the two. Of equal ones it unpacks one.
     #[tactic(auto, unfolding(crate::specs::Nodes::node_of))]
     pub fn range(&self) -> KeyRange
         ensures { result ≡ (node_of self.now.words).range }
     {
-        upwards(&self.key(1), &self.key(9))
+        let left = self.key(1);
+        if self.words[1..9] == self.words[9..17] {
+            upwards(&left, &left)
+        } else {
+            upwards(&left, &self.key(9))
+        }
     }
 
     /// On which side of the asked range the row's range lies. Where its left key lies before the asked range, the greater of its two

@@ -1,24 +1,16 @@
-use Rattle.std.proofs.Common.{sym, ◌∙◌}
-use Rattle.lt_rows.proofs.SideLaws.{after, not_after, ahead, not_ahead, both}
+use Rattle.std.proofs.Common.{refl, sym}
+use Rattle.std.specs.declared.cmp.Ordering.TheVariants.{Less, Greater}
+use Rattle.lt_rows.proofs.SideLaws.{after, ahead, first_less, first_more}
 use Rattle.lt_rows.proofs.packed_range.PackedRange.side_of_words.Goals as goal
 
-pub returns-then-is_gt : goal.returns-then-is_gt
-returns-then-is_gt c =
+pub returns-then-self-words : goal.returns-then-self-words
+returns-then-self-words c =
     let s = c.args.self.now in
-    after c.args.words.now s.right s.range.right c.requires s.packs_right c.cmp.result c.cmp.ensures
-    (sym c.is_gt.ensures ∙ c.if-is_gt.true)
+    after c.args.words.now s.right s.range.right c.requires.packs s.packs_right Greater
+    (sym (first_more c.args.words.now s.right c.if-self-words.true)) refl
 
-pub returns-then-is_lt : goal.returns-then-is_lt
-returns-then-is_lt c =
+pub returns-then-words-self : goal.returns-then-words-self
+returns-then-words-self c =
     let s = c.args.self.now in
-    ahead c.args.words.now s.left s.range.left c.requires s.packs_left c.cmp-else-is_gt.result c.cmp-else-is_gt.ensures
-    (sym c.is_lt.ensures ∙ c.if-is_lt.true)
-
-pub returns-else-is_lt : goal.returns-else-is_lt
-returns-else-is_lt c =
-    let s = c.args.self.now in
-    both _ _
-    (not_after c.args.words.now s.right s.range.right c.requires s.packs_right c.cmp.result c.cmp.ensures
-    (sym c.is_gt.ensures ∙ c.if-is_gt.false))
-    (not_ahead c.args.words.now s.left s.range.left c.requires s.packs_left c.cmp-else-is_gt.result c.cmp-else-is_gt.ensures
-    (sym c.is_lt.ensures ∙ c.if-is_lt.false))
+    ahead c.args.words.now s.left s.range.left c.requires.packs s.packs_left Less
+    (sym (first_less c.args.words.now s.left c.if-words-self.true)) refl

@@ -1,6 +1,6 @@
 use Rattle.std.proofs.Common.{arith, refl}
 use Rattle.lt_rows.proofs.FilledWords.{packs_low, packs_high}
-use Rattle.lt_rows.proofs.packing.packs_key.Goals as goal
+use Rattle.lt_rows.proofs.packing.packs_by_code.Goals as goal
 
 pub returns-in-0-to-64 : goal.returns-in-0-to-64
 returns-in-0-to-64 c is =
