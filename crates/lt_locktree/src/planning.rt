@@ -14,7 +14,7 @@ use std::alloc::AllocError;
 fn relink(stays: &RowImage, tree: u32, asked: &KeyRange, link: u32) -> RowImage
     ensures { result ≡ relinked tree asked.now stays.now link }
 {
-    let on_left = stays.row == tree || !stays.range().left().is_at_most(&asked.right());
+    let on_left = stays.row == tree || !stays.left_key().is_at_most(&asked.right());
     let mut image = *stays;
     image.words[if on_left { 17 } else { 18 }] = u64::from(link);
     image

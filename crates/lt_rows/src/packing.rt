@@ -110,6 +110,20 @@ fn packs_by_code(words: &[u64]) -> bool
     }
 }
 
+/// Whether eight words are eight others.
+pub(crate) fn are_same(words: &[u64], others: &[u64]) -> bool
+    requires words { length words.now ≡ 8 }
+    requires others { length others.now ≡ 8 }
+    ensures { IsTrue result → words.now ≡ others.now }
+{
+    for i in 0..KEY_WORDS {
+        if words[i] != others[i] {
+            return false;
+        }
+    }
+    true
+}
+
 /// Whether the six words between the first and the last are 0.
 fn are_bare(words: &[u64]) -> bool
     requires { length words.now ≡ 8 }

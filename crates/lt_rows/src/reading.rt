@@ -5,7 +5,7 @@ ghost use Rattle.lt_rows.specs.Sides.{IsSideOf};
 
 use crate::image::RowImage;
 use crate::packed_range::PackedRange;
-use crate::packing::read_key;
+use crate::packing::{are_same, read_key};
 use crate::range_side::RangeSide;
 use lt_ranges::{KEY_WORDS, Key, KeyRange};
 
@@ -54,7 +54,7 @@ impl RowImage {
         ensures { result ≡ (node_of self.now.words).range }
     {
         let left = self.key(1);
-        if self.words[1..9] == self.words[9..17] {
+        if are_same(&self.words[1..9], &self.words[9..17]) {
             upwards(&left, &left)
         } else {
             upwards(&left, &self.key(9))

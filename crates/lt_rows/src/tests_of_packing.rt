@@ -129,3 +129,50 @@ fn a_row_lies_on_the_side_of_its_range(rt: HostRuntime) -> Result<(), Fail> {
     );
     Ok(())
 }
+
+#[test]
+fn a_row_of_one_key_has_the_range_of_it(rt: HostRuntime) -> Result<(), Fail> {
+    for count in COUNTS {
+        for key in [bytes(count), after(count)] {
+            let row = row(&key.pack(), &key.pack());
+            assert_eq!(rt; row.left_key(), key);
+            assert_eq!(rt; row.range(), KeyRange::new(key, key)?);
+        }
+    }
+    let least = row(&Key::Below.pack(), &Key::Below.pack());
+    assert_eq!(rt; least.left_key(), Key::Below);
+    assert_eq!(rt; least.range(), KeyRange::new(Key::Below, Key::Below)?);
+    Ok(())
+}
+
+#[test]
+fn a_row_of_two_keys_has_the_range_to_the_greater(rt: HostRuntime) -> Result<(), Fail> {
+    for left in COUNTS {
+        for right in COUNTS {
+            let row = row(&bytes(left).pack(), &bytes(right).pack());
+            let greater = bytes(left.max(right));
+            assert_eq!(rt; row.left_key(), bytes(left));
+            assert_eq!(rt; row.range(), KeyRange::new(bytes(left), greater)?);
+        }
+    }
+    Ok(())
+}
+
+#[test]
+fn words_that_pack_none_are_read_as_the_least_key(rt: HostRuntime) -> Result<(), Fail> {
+    let none = [
+        [0x6100_0001_0000_0000, 0, 0, 0, 0, 0, 0, 2],
+        [0x6100_0000_0000_0000, 0, 0, 0, 0, 0, 0, 1],
+        [0x6100_0000_0000_0000, 0, 0, 0, 0, 0, 0, 0],
+        [0x6162_6364_6566_6768, 0, 0, 0, 0, 0, 0, 8],
+        [0x6162_6364_6566_6768, 0, 0, 0, 0, 0, 1, 9],
+        [0, 0, 0, 0, 0, 0, 0, 256],
+    ];
+    for words in none {
+        assert!(rt; !packs_key(&words));
+        let row = row(&words, &bytes(8).pack());
+        assert_eq!(rt; row.left_key(), Key::Below);
+        assert_eq!(rt; row.range(), KeyRange::new(Key::Below, bytes(8))?);
+    }
+    Ok(())
+}

@@ -1,5 +1,5 @@
 use Rattle.std.specs.Prelude.{None, true}
-use Rattle.std.proofs.Common.{rules, ◌≡◌, ℕ, ◌<◌, [], ◌∷◌, ◌++◌, List, sym, ap, ◌∙◌, subst, arith, refl}
+use Rattle.std.proofs.Common.{rules, ◌≡◌, ℕ, ◌<◌, [], ◌∷◌, ◌++◌, sym, ap, ◌∙◌, subst, arith, refl}
 use Rattle.lt_ranges.specs.Interval.{Interval, overlap}
 use Rattle.lt_rows.specs.declared.row_plan.RowPlan.{RowPlan}
 use Rattle.lt_rows.specs.declared.view.View.{View}
@@ -7,7 +7,6 @@ use Rattle.lt_rows.specs.declared.image.RowImage.{RowImage}
 use Rattle.lt_rows.specs.declared.table.RowTable.{RowTable}
 use Rattle.lt_rows.specs.Handles.{knows}
 use Rattle.lt_tree.specs.Puttings.{Backs}
-use Rattle.lt_forest.specs.Trees.{Node}
 use Rattle.lt_rows.specs.Nodes.{node_of}
 use Rattle.lt_rows.proofs.Planned.{held_row}
 use Rattle.lt_tree.specs.States.{SeesOn, image_at}
