@@ -5,6 +5,7 @@
 
 Printed for each trace: nanoseconds an ask (with its share of the release), the least over all repetitions, taken in turns.
   bare     RocksDB's calls alone: begin, ask, release, without reading or printing
+  library  the calls of the C library alone, where its archive is built
   process  the whole process that reads the trace and prints the answers, less that of an empty trace
 For `escalate_60000`: nanoseconds an escalation. Where the folder has no players, rangelock is timed alone.
 """
@@ -22,9 +23,9 @@ def wall(command, path):
         return time.perf_counter() - start if done.returncode == 0 else None
 
 
-def bare(player, path, prep, threads):
+def bare(player, path, prep, threads, spoils):
     # with threads, a helper's lock outside them keeps RocksDB from beginning a buffer
-    more = ["--spoil", "--threads", str(threads)] if threads else ["--prep", str(prep)]
+    more = (["--spoil"] if spoils else []) + ["--threads", str(threads)] if threads else ["--prep", str(prep)]
     done = subprocess.run([player, path, "--reps", "1"] + more, capture_output=True, text=True)
     words = done.stdout.split()
     if done.returncode != 0 or len(words) < 2:
@@ -54,7 +55,10 @@ def main():
     rocks = os.path.exists(calls) and os.path.exists(player)
     programs = ([("RocksDB process", [player])] if rocks else []) + [("serial", [a.rangelock, "serial"])]
     programs += [(f"crew {n}", [a.rangelock, "crew", str(n)]) for n in a.workers]
-    columns = (["RocksDB bare"] + [f"bare, {n} threads" for n in a.workers if n > 1] if rocks else []) + [p[0] for p in programs]
+    library = os.path.join(a.players, "library")
+    alone = ([("RocksDB bare", calls, True)] if rocks else []) + ([("library", library, False)] if os.path.exists(library) else [])
+    many = [n for n in a.workers if n > 1]
+    columns = [of for name, _, _ in alone for of in [name] + [f"{name}, {n} threads" for n in many]] + [p[0] for p in programs]
     print("| trace | asks |", " | ".join(columns), "|")
     print("|---|---|" + "---|" * len(columns))
     zero = {label: min((wall(command, empty) or 9) for _ in range(5)) for label, command in programs}
@@ -72,11 +76,11 @@ def main():
                 f.writelines(line for line in open(path) if " escalate " not in line)
         best = {}
         for _ in range(a.reps):
-            if rocks:
-                best["RocksDB bare"] = least(best.get("RocksDB bare"), bare(calls, path, prep, 1 if name.startswith("threads") else 0))
-                for n in a.workers:
-                    if n > 1 and name.startswith("threads"):
-                        best[f"bare, {n} threads"] = least(best.get(f"bare, {n} threads"), bare(calls, path, prep, n))
+            for of, caller, spoils in alone:
+                threaded = name.startswith("threads")
+                best[of] = least(best.get(of), bare(caller, path, prep, 1 if threaded else 0, spoils))
+                for n in many if threaded else []:
+                    best[f"{of}, {n} threads"] = least(best.get(f"{of}, {n} threads"), bare(caller, path, prep, n, spoils))
             for label, command in programs:
                 if label.startswith("crew") and not name.startswith("threads"):
                     continue
