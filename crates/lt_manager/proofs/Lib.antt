@@ -9,3 +9,4 @@ pub mod BuildLaws
 pub mod OriginLaws
 pub mod CloseLaws
 pub mod AskLaws
+pub mod AgainLaws

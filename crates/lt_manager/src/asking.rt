@@ -1,9 +1,11 @@
 //! Asks for ranges.
+use crate::again::{AGAIN, is_busy};
 use crate::bars::bar_for;
 use crate::manager_pass::ManagerPass;
 use lt_locktree::Locktree;
 use lt_ranges::KeyRange;
 use lt_seq::{Fault, Receipt};
+use std::thread::yield_now;
 
 impl ManagerPass {
     ghost use Rattle.std.specs.Prelude.{◌≡◌, ◌<◌, ◌≤◌, true};
@@ -41,6 +43,65 @@ impl ManagerPass {
         self.ask_below(table, txn, tree, range, bar)
     }
 
+    /// Asks for a range behind a look of its own. Where the rows in use have reached the bar, it joins all trees first.
+    fn ask_once(
+        &mut self,
+        table: &Locktree,
+        txn: u64,
+        tree: u32,
+        range: &KeyRange,
+        bar: u64,
+    ) -> Result<Receipt, Fault>
+        requires of { IsOfTable table.now self.old.pass }
+        requires right { 0 < (sees self.old.pass).rights }
+        requires txn { 0 < txn }
+        requires tree { tree < table.now.rows.plan.trees }
+        requires bar { bar ≤ table.now.rows.plan.limit }
+        ensures of { StaysOf table.now self.old.pass self.new.pass }
+        ensures answer { AskAnswers (setting_of (sees self.old.pass).plan) bar (view_of self.old) (view_of self.new) txn
+            (Ask tree range.now Granted) result }
+    {
+        let look = self.look_for_place(table)?;
+        if look.used < bar {
+            self.ask_at(table, txn, tree, range)
+        } else {
+            self.join_and_ask(table, txn, tree, range, bar)
+        }
+    }
+
+    /// Asks for a range. Where a row was busy, it lets other threads run and begins anew, unless it has made joins: a call makes
+    /// those of one ask.
+    fn ask_again(
+        &mut self,
+        table: &Locktree,
+        txn: u64,
+        tree: u32,
+        range: &KeyRange,
+        bar: u64,
+    ) -> Result<Receipt, Fault>
+        requires of { IsOfTable table.now self.old.pass }
+        requires right { 0 < (sees self.old.pass).rights }
+        requires txn { 0 < txn }
+        requires tree { tree < table.now.rows.plan.trees }
+        requires bar { bar ≤ table.now.rows.plan.limit }
+        ensures of { StaysOf table.now self.old.pass self.new.pass }
+        ensures answer { AskAnswers (setting_of (sees self.old.pass).plan) bar (view_of self.old) (view_of self.new) txn
+            (Ask tree range.now Granted) result }
+    {
+        for _ in 0..AGAIN {
+            let look = self.look_for_place(table)?;
+            if look.used >= bar {
+                return self.join_and_ask(table, txn, tree, range, bar);
+            }
+            let answer = self.ask_at(table, txn, tree, range);
+            if !is_busy(&answer) {
+                return answer;
+            }
+            yield_now();
+        }
+        self.ask_once(table, txn, tree, range, bar)
+    }
+
     /// Asks for a range. Where the rows in use have reached the bar, it joins all trees first.
     ///
     /// # Errors
@@ -62,11 +123,6 @@ impl ManagerPass {
             (view_of self.new) txn (Ask tree range.now Granted) result }
     {
         let bar = bar_for(table.plan(), big);
-        let look = self.look_for_place(table)?;
-        if look.used < bar {
-            self.ask_at(table, txn, tree, range)
-        } else {
-            self.join_and_ask(table, txn, tree, range, bar)
-        }
+        self.ask_again(table, txn, tree, range, bar)
     }
 }

@@ -16,7 +16,12 @@ impl ManagerPass {
     ghost use Rattle.lt_manager.specs.Answers.{AnsweredBehind};
 
     /// Joins each run of neighbours of one owner in a tree, and keeps the receipt and a note.
-    pub(crate) fn join(&mut self, table: &Locktree, txn: u64, tree: u32) -> Result<Receipt, Fault>
+    pub(crate) fn join_once(
+        &mut self,
+        table: &Locktree,
+        txn: u64,
+        tree: u32,
+    ) -> Result<Receipt, Fault>
         requires of { IsOfTable table.now self.old.pass }
         requires right { 0 < (sees self.old.pass).rights }
         requires tree { tree < table.now.rows.plan.trees }

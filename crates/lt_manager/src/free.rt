@@ -14,7 +14,7 @@ impl ManagerPass {
     ghost use Rattle.lt_manager.specs.Views.{view_of};
 
     /// Frees the transaction's ranges that overlap the range, and keeps the receipt.
-    pub(crate) fn free(
+    pub(crate) fn free_once(
         &mut self,
         table: &Locktree,
         txn: u64,

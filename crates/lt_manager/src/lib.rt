@@ -1,6 +1,7 @@
 //! The lock table that threads share, with the receipts and notes that its passes keep.
 #![tactic(auto)]
 
+mod again;
 mod ask_below;
 mod asking;
 mod bars;

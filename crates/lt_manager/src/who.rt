@@ -14,7 +14,7 @@ impl ManagerPass {
     ghost use Rattle.lt_manager.specs.Views.{view_of};
 
     /// Asks whose ranges stand in the way of the named transaction, and keeps the receipt.
-    pub(crate) fn who(
+    pub(crate) fn who_once(
         &mut self,
         table: &Locktree,
         txn: u64,
