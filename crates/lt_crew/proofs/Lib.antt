@@ -32,3 +32,4 @@ pub mod PassesLaws
 pub mod PlayedCrewLaws
 pub mod HeldAgainLaws
 pub mod SettledTurnLaws
+pub mod ByTxnLaws
