@@ -1,9 +1,9 @@
 // Measures the C library on a trace that is read first, as bench.cc measures RocksDB's calls.
-//   library TRACE [--prep N] [--reps R] [--threads N]
-// Every `try` and every `lock` is one lt_take; `end` and `abort` are one lt_release for each tree that the transaction asked in. The
-// table is new for each repetition, of the trace's trees, limit and buffer. With --threads N the transaction of index i (ascending) is
-// played whole by thread i mod N, through a handle of its own; a call that is busy yields and is made again. The trace must have no
-// line that is held.
+//   library TRACE [--prep N] [--reps R] [--threads N] [--at-once]
+// Every `try` and every `lock` is one lt_ask; `end` and `abort` are one lt_free for each range that the transaction was granted, or, with
+// --at-once, one for each tree in which it was granted one, of all keys up to 63 bytes of 255. The table is new for each repetition, of
+// the trace's trees, limit and buffer. With --threads N the transaction of index i (ascending) is played whole by thread i mod N, through
+// a handle of its own; a call that is busy yields and is made again. The trace must have no line that is held.
 // One line of numbers: the best and the median of the repetitions.
 #include <leddonchi.h>
 
@@ -14,6 +14,7 @@
 #include <iostream>
 #include <map>
 #include <thread>
+#include <unordered_map>
 
 #include "trace.h"
 
@@ -55,17 +56,40 @@ lt_answer until_done(Times& t, Call call) {
   std::exit(9);
 }
 
+// What a transaction was granted: its ranges, in their order.
+using Grants = std::unordered_map<uint64_t, std::vector<const Op*>>;
+
+// Frees one range.
+void free_range(lt_handle* handle, uint64_t txn, uint32_t tree, const std::string& l, const std::string& r, bool first, Times& t) {
+  lt_answer answer =
+      until_done(t, [&] { return lt_free(handle, txn, tree, bytes(l), l.size(), bytes(r), r.size(), first); });
+  if (answer.status != LT_DONE) unexpected(answer.status);
+}
+
+// Frees all that a transaction was granted. The first free in each tree says so.
+void release(lt_handle* handle, uint64_t txn, const std::vector<const Op*>& granted, bool at_once, Times& t) {
+  static const std::string least, greatest(63, '\xff');
+  std::vector<bool> begun(16);
+  for (const Op* o : granted) {
+    bool first = !begun[o->tree];
+    begun[o->tree] = true;
+    if (!at_once) free_range(handle, txn, o->tree, o->l, o->r, first, t);
+    else if (first) free_range(handle, txn, o->tree, least, greatest, first, t);
+  }
+}
+
 // Plays ops [from, to) through one handle.
-void play(lt_handle* handle, uint32_t trees, const std::vector<Op>& ops, size_t from, size_t to, Times& t) {
+void play(lt_handle* handle, bool at_once, const std::vector<Op>& ops, size_t from, size_t to, Grants& grants, Times& t) {
   uint64_t start = now_ns();
   for (size_t i = from; i < to; i++) {
     const Op& o = ops[i];
     if (o.deed == Deed::Try || o.deed == Deed::Lock) {
       uint64_t holders[4];
       lt_answer answer = until_done(t, [&] {
-        return lt_take(handle, o.txn, o.tree, bytes(o.l), o.l.size(), bytes(o.r), o.r.size(), holders, 4);
+        return lt_ask(handle, o.txn, o.tree, bytes(o.l), o.l.size(), bytes(o.r), o.r.size(), holders, 4);
       });
       if (answer.status > LT_BUFFERED) unexpected(answer.status);
+      grants[o.txn].push_back(&o);
       t.asks++;
       t.granted++;
     } else if (o.deed == Deed::Escalate) {
@@ -74,10 +98,8 @@ void play(lt_handle* handle, uint32_t trees, const std::vector<Op>& ops, size_t 
       t.esc_ns += now_ns() - before;
       t.escs++;
     } else {
-      for (uint32_t tree = 0; tree < trees; tree++) {
-        lt_answer answer = until_done(t, [&] { return lt_release(handle, o.txn, tree); });
-        if (answer.status != LT_DONE) unexpected(answer.status);
-      }
+      release(handle, o.txn, grants[o.txn], at_once, t);
+      grants.erase(o.txn);
     }
   }
   t.wall_ns += now_ns() - start;
@@ -89,7 +111,7 @@ double median(std::vector<double> v) {
   return v[v.size() / 2];
 }
 
-Times run_threads(std::vector<lt_handle>& handles, uint32_t trees, const std::vector<std::vector<Op>>& per_thread) {
+Times run_threads(std::vector<lt_handle>& handles, bool at_once, const std::vector<std::vector<Op>>& per_thread) {
   size_t threads = per_thread.size();
   std::vector<Times> ts(threads);
   std::atomic<size_t> ready{0};
@@ -100,7 +122,8 @@ Times run_threads(std::vector<lt_handle>& handles, uint32_t trees, const std::ve
       ready++;
       while (!go) {
       }
-      play(&handles[k], trees, per_thread[k], 0, per_thread[k].size(), ts[k]);
+      Grants grants;
+      play(&handles[k], at_once, per_thread[k], 0, per_thread[k].size(), grants, ts[k]);
     });
   while (ready != threads) {
   }
@@ -122,12 +145,14 @@ Times run_threads(std::vector<lt_handle>& handles, uint32_t trees, const std::ve
 int main(int argc, char** argv) {
   std::string file;
   size_t prep = 0, reps = 5, threads = 1;
+  bool at_once = false;
   for (int i = 1; i < argc; i++) {
     std::string a = argv[i];
     auto num = [&] { return static_cast<size_t>(std::strtoull(argv[++i], nullptr, 10)); };
     if (a == "--prep" && i + 1 < argc) prep = num();
     else if (a == "--reps" && i + 1 < argc) reps = num();
     else if (a == "--threads" && i + 1 < argc) threads = num();
+    else if (a == "--at-once") at_once = true;
     else if (file.empty() && a[0] != '-') file = a;
     else return 2;
   }
@@ -155,10 +180,11 @@ int main(int argc, char** argv) {
     Times t;
     if (threads == 1) {
       Times before;
-      play(&handles[0], trace.trees, ops, 0, prep, before);
-      play(&handles[0], trace.trees, ops, prep, ops.size(), t);
+      Grants grants;
+      play(&handles[0], at_once, ops, 0, prep, grants, before);
+      play(&handles[0], at_once, ops, prep, ops.size(), grants, t);
     } else {
-      t = run_threads(handles, trace.trees, per_thread);
+      t = run_threads(handles, at_once, per_thread);
     }
     for (auto& handle : handles) lt_close(&handle);
     per_ask.push_back(t.asks ? double(t.wall_ns - t.esc_ns) / double(t.asks) : 0);

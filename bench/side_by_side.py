@@ -5,7 +5,7 @@
 
 Printed for each trace: nanoseconds an ask (with its share of the release), the least over all repetitions, taken in turns.
   bare     RocksDB's calls alone: begin, ask, release, without reading or printing
-  library  the calls of the C library alone, where its archive is built
+  library  the calls of the C library alone, where its archive is built: a free for each range, or one for each tree (at once)
   process  the whole process that reads the trace and prints the answers, less that of an empty trace
 For `escalate_60000`: nanoseconds an escalation. Where the folder has no players, rangelock is timed alone.
 """
@@ -23,9 +23,9 @@ def wall(command, path):
         return time.perf_counter() - start if done.returncode == 0 else None
 
 
-def bare(player, path, prep, threads, spoils):
-    # with threads, a helper's lock outside them keeps RocksDB from beginning a buffer
-    more = (["--spoil"] if spoils else []) + ["--threads", str(threads)] if threads else ["--prep", str(prep)]
+def bare(player, path, prep, threads, flags):
+    # with threads, a helper's lock outside them keeps RocksDB from beginning a buffer: --spoil
+    more = [flag for flag in flags if threads or flag != "--spoil"] + (["--threads", str(threads)] if threads else ["--prep", str(prep)])
     done = subprocess.run([player, path, "--reps", "1"] + more, capture_output=True, text=True)
     words = done.stdout.split()
     if done.returncode != 0 or len(words) < 2:
@@ -56,7 +56,8 @@ def main():
     programs = ([("RocksDB process", [player])] if rocks else []) + [("serial", [a.rangelock, "serial"])]
     programs += [(f"crew {n}", [a.rangelock, "crew", str(n)]) for n in a.workers]
     library = os.path.join(a.players, "library")
-    alone = ([("RocksDB bare", calls, True)] if rocks else []) + ([("library", library, False)] if os.path.exists(library) else [])
+    alone = [("RocksDB bare", calls, ["--spoil"])] if rocks else []
+    alone += [("library", library, []), ("library at once", library, ["--at-once"])] if os.path.exists(library) else []
     many = [n for n in a.workers if n > 1]
     columns = [of for name, _, _ in alone for of in [name] + [f"{name}, {n} threads" for n in many]] + [p[0] for p in programs]
     print("| trace | asks |", " | ".join(columns), "|")
@@ -76,11 +77,11 @@ def main():
                 f.writelines(line for line in open(path) if " escalate " not in line)
         best = {}
         for _ in range(a.reps):
-            for of, caller, spoils in alone:
+            for of, caller, flags in alone:
                 threaded = name.startswith("threads")
-                best[of] = least(best.get(of), bare(caller, path, prep, 1 if threaded else 0, spoils))
+                best[of] = least(best.get(of), bare(caller, path, prep, 1 if threaded else 0, flags))
                 for n in many if threaded else []:
-                    best[f"{of}, {n} threads"] = least(best.get(f"{of}, {n} threads"), bare(caller, path, prep, n, spoils))
+                    best[f"{of}, {n} threads"] = least(best.get(f"{of}, {n} threads"), bare(caller, path, prep, n, flags))
             for label, command in programs:
                 if label.startswith("crew") and not name.startswith("threads"):
                     continue
