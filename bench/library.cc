@@ -1,8 +1,8 @@
 // Measures the C library on a trace that is read first, as bench.cc measures RocksDB's calls.
 //   library TRACE [--prep N] [--reps R] [--threads N] [--at-once]
 // Every `try` and every `lock` is one lt_ask; `end` and `abort` are one lt_free for each range that the transaction was granted, or, with
-// --at-once, one for each tree in which it was granted one, of all keys up to 63 bytes of 255. The table is new for each repetition, of
-// the trace's trees, limit and buffer. With --threads N the transaction of index i (ascending) is played whole by thread i mod N, through
+// --at-once, one lt_release for each tree in which it was granted one. The table is new for each repetition, of the trace's trees, limit
+// and buffer. With --threads N the transaction of index i (ascending) is played whole by thread i mod N, through
 // a handle of its own; a call that is busy yields and is made again. The trace must have no line that is held.
 // One line of numbers: the best and the median of the repetitions.
 #include <leddonchi.h>
@@ -59,22 +59,18 @@ lt_answer until_done(Times& t, Call call) {
 // What a transaction was granted: its ranges, in their order.
 using Grants = std::unordered_map<uint64_t, std::vector<const Op*>>;
 
-// Frees one range.
-void free_range(lt_handle* handle, uint64_t txn, uint32_t tree, const std::string& l, const std::string& r, bool first, Times& t) {
-  lt_answer answer =
-      until_done(t, [&] { return lt_free(handle, txn, tree, bytes(l), l.size(), bytes(r), r.size(), first); });
-  if (answer.status != LT_DONE) unexpected(answer.status);
-}
-
 // Frees all that a transaction was granted. The first free in each tree says so.
 void release(lt_handle* handle, uint64_t txn, const std::vector<const Op*>& granted, bool at_once, Times& t) {
-  static const std::string least, greatest(63, '\xff');
   std::vector<bool> begun(16);
   for (const Op* o : granted) {
     bool first = !begun[o->tree];
     begun[o->tree] = true;
-    if (!at_once) free_range(handle, txn, o->tree, o->l, o->r, first, t);
-    else if (first) free_range(handle, txn, o->tree, least, greatest, first, t);
+    if (at_once && !first) continue;
+    lt_answer answer = until_done(t, [&] {
+      if (at_once) return lt_release(handle, txn, o->tree);
+      return lt_free(handle, txn, o->tree, bytes(o->l), o->l.size(), bytes(o->r), o->r.size(), first);
+    });
+    if (answer.status != LT_DONE) unexpected(answer.status);
   }
 }
 

@@ -5,7 +5,7 @@
 
 Printed for each trace: nanoseconds an ask (with its share of the release), the least over all repetitions, taken in turns.
   bare     RocksDB's calls alone: begin, ask, release, without reading or printing
-  library  the calls of the C library alone, where its archive is built: a free for each range, or one for each tree (at once)
+  library  the calls of the C library alone, where its archive is built: a free for each range, or a release for each tree (at once)
   process  the whole process that reads the trace and prints the answers, less that of an empty trace
 For `escalate_60000`: nanoseconds an escalation. Where the folder has no players, rangelock is timed alone.
 """

@@ -1,4 +1,4 @@
-/* Plays random asks, frees, questions and escalations by up to 16 threads on small crowded tables of the C library, and checks what the
+/* Plays random asks, frees, releases, questions and escalations by up to 16 threads on small crowded tables of the C library, and checks what the
  * table answers. Nothing here is proved, and none of it shares code with the library. checks/stress builds and runs it.
  *
  *   stress THREADS SECONDS SEED
@@ -168,7 +168,7 @@ static void check_place(struct worker *worker, uint64_t place) {
     worker->next_place = place + 1;
 }
 
-enum call { ASK, FREE, WHO, ESCALATE };
+enum call { ASK, FREE, RELEASE, WHO, ESCALATE };
 
 /* One call, of whichever kind. */
 struct asked {
@@ -188,6 +188,7 @@ static struct lt_answer call_once(struct worker *worker, const struct asked *ask
     case ASK:
         return lt_ask(handle, worker->txn, tree, left->bytes, left->len, right->bytes, right->len, asked->holders, asked->room);
     case FREE: return lt_free(handle, worker->txn, tree, left->bytes, left->len, right->bytes, right->len, asked->first);
+    case RELEASE: return lt_release(handle, worker->txn, tree);
     case WHO:
         return lt_who(handle, worker->txn, asked->as_txn, tree, left->bytes, left->len, right->bytes, right->len, asked->holders,
                       asked->room);
@@ -317,14 +318,18 @@ static bool ask(struct worker *worker, struct range range, bool is_own) {
     return true;
 }
 
-/* Frees a range whose marks are clear, and returns how many ranges went. */
-static uint64_t free_range(struct worker *worker, struct range range, bool first) {
-    struct lt_answer answer = call(worker, &(struct asked){ .call = FREE, .range = range, .first = first });
+/* A free or a release, of keys whose marks are clear; returns how many ranges went. */
+static uint64_t freed(struct worker *worker, const struct asked *asked) {
+    struct lt_answer answer = call(worker, asked);
     if (answer.status != LT_DONE) found(worker, "a free answers %" PRIu32, answer.status);
     check_place(worker, answer.place);
     worker->seen.frees++;
     if (answer.count > worker->grants_len) found(worker, "%" PRIu64 " ranges went, of %u grants", answer.count, worker->grants_len);
     return answer.count;
+}
+
+static uint64_t free_range(struct worker *worker, struct range range, bool first) {
+    return freed(worker, &(struct asked){ .call = FREE, .range = range, .first = first });
 }
 
 /* Asks who holds a range. */
@@ -392,6 +397,7 @@ static void call_wrongly(struct worker *worker) {
     expect_bad(worker, "ends that are swapped", lt_ask(handle, worker->txn, 0, high->bytes, high->len, low->bytes, low->len, holders, 1));
     expect_bad(worker, "a long key", lt_ask(handle, worker->txn, 0, low->bytes, low->len, long_key, sizeof long_key, holders, 1));
     expect_bad(worker, "no tree", lt_free(handle, worker->txn, setup->trees, low->bytes, low->len, high->bytes, high->len, false));
+    expect_bad(worker, "a release in no tree", lt_release(handle, worker->txn, setup->trees));
     expect_bad(worker, "a question for none", lt_who(handle, worker->txn, 0, 0, low->bytes, low->len, high->bytes, high->len, holders, 1));
     expect_bad(worker, "a join of no tree", lt_escalate(handle, worker->txn, setup->trees));
     expect_bad(worker, "an open handle", lt_open(handle, 1, 1, 1, 0));
@@ -419,18 +425,24 @@ static bool step(struct worker *worker) {
     return true;
 }
 
-/* Frees all that was granted in a tree: range by range, or by one free of all keys. Each of the transaction's ranges overlaps one of the
- * grants, whatever was joined. */
+/* Frees all that was granted in a tree: by a release, by one free of all keys that there are, or range by range. Each of the transaction's
+ * ranges overlaps one of the grants, whatever was joined. */
 static void release_tree(struct worker *worker, uint32_t tree) {
-    bool first = true, at_once = below(worker, 4) == 0;
+    bool first = true;
+    unsigned how = below(worker, 4);
     clear_marks(worker, tree);
+    if (how == 0) {
+        freed(worker, &(struct asked){ .call = RELEASE, .range = { .tree = tree } });
+        return;
+    }
+    if (how == 1) {
+        free_range(worker, (struct range){ tree, 0, KEYS - 1 }, true);
+        return;
+    }
     for (unsigned i = 0; i < worker->grants_len; i++) {
-        struct range range = worker->grants[i].range;
-        if (range.tree != tree) continue;
-        if (at_once) range = (struct range){ tree, 0, KEYS - 1 };
-        free_range(worker, range, first);
+        if (worker->grants[i].range.tree != tree) continue;
+        free_range(worker, worker->grants[i].range, first);
         first = false;
-        if (at_once) return;
     }
 }
 

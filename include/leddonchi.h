@@ -69,6 +69,10 @@ struct lt_answer lt_ask(struct lt_handle *handle, uint64_t txn, uint32_t tree, c
 struct lt_answer lt_free(struct lt_handle *handle, uint64_t txn, uint32_t tree, const uint8_t *left, size_t left_len, const uint8_t *right,
                          size_t right_len, bool first);
 
+/* Frees all that the transaction holds in a tree, at its end: count of its ranges went. It is one event however many they are, and ends a buffer
+ * of its own. Call it for each tree in which the transaction asked. */
+struct lt_answer lt_release(struct lt_handle *handle, uint64_t txn, uint32_t tree);
+
 /* Whose ranges overlap the range, but those of the transaction as_txn: count of them, as many as there is room for are written, ascending. */
 struct lt_answer lt_who(struct lt_handle *handle, uint64_t txn, uint64_t as_txn, uint32_t tree, const uint8_t *left, size_t left_len,
                         const uint8_t *right, size_t right_len, uint64_t *holders, size_t holders_len);

@@ -84,6 +84,11 @@ public:
         return insist([&] { return lt_free(at, txn, tree, bytes(from), from.size(), bytes(to), to.size(), first); }).count;
     }
 
+    // How many ranges went, of all that the transaction held in the tree.
+    std::uint64_t release(std::uint64_t txn, std::uint32_t tree) {
+        return insist([&] { return lt_release(at, txn, tree); }).count;
+    }
+
     // How many ranges are left in the tree.
     std::uint64_t escalate(std::uint64_t txn, std::uint32_t tree) {
         return insist([&] { return lt_escalate(at, txn, tree); }).count;
@@ -128,7 +133,7 @@ private:
     std::atomic<std::size_t> taken{ 0 };
 };
 
-// A transaction, which frees all that it was granted where its scope ends.
+// A transaction, which frees all that it holds where its scope ends.
 class Transaction {
 public:
     Transaction(Handle &handle, std::uint64_t number) : handle(handle), number(number) {}
@@ -137,47 +142,31 @@ public:
     Transaction &operator=(const Transaction &) = delete;
 
     Asked ask(std::uint32_t tree, std::string_view left, std::string_view right) {
-        ranges.push_back({ tree, std::string(left), std::string(right) }); // before the grant, so that none is lost for want of memory
-        try {
-            Asked asked = handle.ask(number, tree, left, right);
-            if (!asked.granted()) ranges.pop_back();
-            return asked;
-        } catch (...) {
-            ranges.pop_back();
-            throw;
-        }
+        if (tree < asked.size()) asked.set(tree); // before the grant, whatever comes of it; no table has more trees
+        return handle.ask(number, tree, left, right);
     }
 
-    // Joined ranges are still found: each has an end or more of those recorded here in it.
     std::uint64_t escalate(std::uint32_t tree) { return handle.escalate(number, tree); }
 
-    // Frees all, and tells whether it did; what could not be freed (for want of memory, or of places) stays recorded.
+    // Frees all in each tree in which it has asked, and tells whether it did; where it could not (for want of memory, or of places), it still
+    // holds what it held there.
     bool release() noexcept {
-        std::bitset<16> begun;
-        std::vector<Range> left;
-        left.swap(ranges);
-        while (!left.empty()) {
-            const Range &range = left.back();
+        for (std::size_t tree = 0; tree < asked.size(); tree++) {
+            if (!asked[tree]) continue;
             try {
-                handle.free(number, range.tree, range.left, range.right, !begun[range.tree]);
+                handle.release(number, static_cast<std::uint32_t>(tree));
             } catch (...) {
-                ranges.swap(left);
                 return false;
             }
-            begun.set(range.tree);
-            left.pop_back();
+            asked.reset(tree);
         }
         return true;
     }
 
 private:
-    struct Range {
-        std::uint32_t tree;
-        std::string left, right;
-    };
     Handle &handle;
     std::uint64_t number;
-    std::vector<Range> ranges;
+    std::bitset<16> asked; // the trees in which it asked
 };
 
 } // namespace lt

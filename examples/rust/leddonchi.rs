@@ -58,6 +58,7 @@ unsafe extern "C" {
         right_len: usize,
         first: bool,
     ) -> RawAnswer;
+    fn lt_release(handle: *mut RawHandle, txn: u64, tree: u32) -> RawAnswer;
     fn lt_escalate(handle: *mut RawHandle, txn: u64, tree: u32) -> RawAnswer;
     fn lt_look(handle: *mut RawHandle) -> RawAnswer;
     fn lt_close(handle: *mut RawHandle) -> RawAnswer;
@@ -223,6 +224,15 @@ impl Handle {
         let right = right.to_vec();
         // SAFETY: slices with their lengths, and a handle that nobody else has.
         count(unsafe { lt_free(self.raw, txn, tree, left.as_ptr(), left.len(), right.as_ptr(), right.len(), first) })
+    }
+
+    /// Frees all that the transaction holds in the tree, by one event, and tells how many ranges went.
+    ///
+    /// # Errors
+    /// There was no event.
+    pub fn release(&mut self, txn: u64, tree: u32) -> Result<u64, Refusal> {
+        // SAFETY: a handle that nobody else has.
+        count(unsafe { lt_release(self.raw, txn, tree) })
     }
 
     /// Joins neighbouring ranges of each owner in the tree, and tells how many ranges are left.

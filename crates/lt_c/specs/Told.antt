@@ -3,7 +3,7 @@ use Rattle.std.specs.Prelude.{◌≡◌, ◌⊎◌, IsTrue, ℕ, ◌+◌, ◌-�
 use Rattle.std.specs.Prelude.{length, take, drop, min, Bool, true, false, nat_eq, nat_le, Result, Ok, Err}
 use Rattle.lt_ranges.specs.declared.key.Key.TheVariants.{Bytes}
 use Rattle.lt_ranges.specs.Key.{key_le}
-use Rattle.lt_ranges.specs.Interval.{Interval}
+use Rattle.lt_ranges.specs.Interval.{Interval, whole}
 use Rattle.lt_seq.specs.declared.event.Deed.TheVariants.{Free, Who}
 use Rattle.lt_seq.specs.declared.event.JoinNote.{JoinNote}
 use Rattle.lt_seq.specs.declared.event.Look.{Look}
@@ -126,6 +126,12 @@ abbrev pub FreeTold : View → View → ℕ → ℕ → List ℕ → List ℕ �
 FreeTold v w txn tree left right first answer =
     IsRefused v w (IsBad v txn tree left right) answer
     ⊎ ((result : Result (ℕ × ℕ) Fault) × FreeAnswers v w txn tree (between left right) first result × (answer ≡ free_told result))
+
+-- A release: a free of all keys, the first of a release in its tree.
+abbrev pub ReleaseTold : View → View → ℕ → ℕ → LtAnswer → Type 0
+ReleaseTold v w txn tree answer =
+    IsRefused v w ((txn ≡ 0) ⊎ (v.plan.trees ≤ tree)) answer
+    ⊎ ((result : Result (ℕ × ℕ) Fault) × FreeAnswers v w txn tree whole true result × (answer ≡ free_told result))
 
 -- the answer of a question
 abbrev pub WhoAnswers : View → View → ℕ → ℕ → ℕ → Interval → Result Named Fault → Type 0

@@ -3,7 +3,7 @@ ghost use Rattle.std.specs.Prelude.{◌≡◌, ◌↔◌, IsTrue, true, false, I
 ghost use Rattle.std.specs.List.{All};
 ghost use Rattle.lt_c.specs.Handles.{Keeps, view_in};
 ghost use Rattle.lt_c.specs.Opened.{IsShut, OpenTold};
-ghost use Rattle.lt_c.specs.Told.{answer_of, refused, AskTold, FreeTold, WhoTold, JoinTold, LookTold};
+ghost use Rattle.lt_c.specs.Told.{answer_of, refused, AskTold, FreeTold, ReleaseTold, WhoTold, JoinTold, LookTold};
 
 use crate::answer::{BAD_ARGUMENT, DONE, LtAnswer, OUT_OF_MEMORY, answer_of};
 use crate::c_handle::{LtHandle, opened, take};
@@ -105,6 +105,23 @@ pub extern "C" fn lt_free(
         return answer_of(BAD_ARGUMENT, 0, 0, 0);
     };
     let answer = boxed.free(txn, tree, left, right, first);
+    boxed.count(&answer);
+    *handle = opened(boxed);
+    answer
+}
+
+/// Frees all that the transaction holds in a tree, by one event: it ends a buffer of its own, and is the first free of a release there.
+#[unsafe(no_mangle)]
+pub extern "C" fn lt_release(alloc: Global, handle: &mut LtHandle, txn: u64, tree: u32) -> LtAnswer
+    ensures kept { handle.new.is_open ≡ handle.old.is_open }
+    ensures shut { handle.old.is_open ≡ false → result ≡ refused }
+    ensures told { IfSome handle.old.slot.held (λ h. IfSome handle.new.slot.held (λ k. Keeps h k result
+        × ReleaseTold (view_in h) (view_in k) txn tree result)) }
+{
+    let Some(mut boxed) = take(alloc, handle) else {
+        return answer_of(BAD_ARGUMENT, 0, 0, 0);
+    };
+    let answer = boxed.release(txn, tree);
     boxed.count(&answer);
     *handle = opened(boxed);
     answer

@@ -2,7 +2,7 @@
 ghost use Rattle.std.specs.Prelude.{◌≡◌, ◌⊎◌, ◌<◌, ◌≤◌, true, IfSome, IfNone};
 ghost use Rattle.std.specs.Arc.{arc_value};
 ghost use Rattle.lt_locktree.specs.Calls.{sees, IsOfTable};
-ghost use Rattle.lt_c.specs.Told.{between, counted, IsNoRange, AskTold, FreeTold, WhoTold, JoinTold, LookTold};
+ghost use Rattle.lt_c.specs.Told.{between, counted, IsNoRange, AskTold, FreeTold, ReleaseTold, WhoTold, JoinTold, LookTold};
 
 use crate::answer::{
     BAD_ARGUMENT, DONE, LtAnswer, answer_of, ask_told, free_told, join_told, who_told,
@@ -85,6 +85,19 @@ impl Handle {
             return answer_of(BAD_ARGUMENT, 0, 0, 0);
         };
         free_told(&deeds::free(&self.table, &mut self.pass, txn, tree, &range, first))
+    }
+
+    /// Frees all that the transaction holds in the tree.
+    pub(crate) fn release(&mut self, txn: u64, tree: u32) -> LtAnswer
+        ensures table { arc_value self.new.table ≡ arc_value self.old.table }
+        ensures counts { self.new.counts ≡ self.old.counts }
+        ensures told { ReleaseTold (sees self.old.pass) (sees self.new.pass) txn tree result }
+    {
+        if txn == 0 || tree >= self.table.plan().trees {
+            return answer_of(BAD_ARGUMENT, 0, 0, 0);
+        }
+        let all = KeyRange::whole();
+        free_told(&deeds::free(&self.table, &mut self.pass, txn, tree, &all, true))
     }
 
     /// Asks whose ranges overlap the range, but those of the transaction `as_txn`.

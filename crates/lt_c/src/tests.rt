@@ -1,8 +1,8 @@
 //! The calls as C makes them.
-use crate::answer::{BAD_ARGUMENT, DONE, GRANTED, HELD, OUT_OF_LOCKS};
+use crate::answer::{BAD_ARGUMENT, BUFFERED, DONE, GRANTED, HELD, OUT_OF_LOCKS};
 use crate::c_handle::shut;
 use crate::exports::{
-    lt_ask, lt_close, lt_counters, lt_escalate, lt_free, lt_look, lt_open, lt_who,
+    lt_ask, lt_close, lt_counters, lt_escalate, lt_free, lt_look, lt_open, lt_release, lt_who,
 };
 use std::test::Fail;
 
@@ -57,6 +57,34 @@ fn an_ask_at_the_limit_joins_first(rt: HostRuntime) -> Result<(), Fail> {
     assert_eq!(rt; (look.status, look.place, look.count), (DONE, 6, 2));
     assert_eq!(rt; lt_counters(alloc, &mut one).joins, 3);
     assert_eq!(rt; lt_close(alloc, &mut one).status, DONE);
+    Ok(())
+}
+
+#[test]
+fn a_release_leaves_the_transaction_nothing(rt: HostRuntime) -> Result<(), Fail> {
+    let alloc = rt.alloc();
+    let mut handles = [shut(alloc)];
+    lt_open(alloc, &mut handles, 2, 64, 8);
+    let [mut one] = handles;
+    let mut holders = [0; 2];
+    let ask = lt_ask(alloc, &mut one, 1, 0, b"a", b"b", &mut holders);
+    assert_eq!(rt; ask.status, BUFFERED);
+    lt_ask(alloc, &mut one, 1, 0, b"", b"", &mut holders);
+    lt_ask(alloc, &mut one, 1, 1, b"a", b"b", &mut holders);
+    let whole_buffer = lt_release(alloc, &mut one, 1, 0);
+    assert_eq!(rt; (whole_buffer.status, whole_buffer.count), (DONE, 2));
+    assert_eq!(rt; lt_look(alloc, &mut one).count, 1);
+    lt_ask(alloc, &mut one, 2, 1, b"x", b"y", &mut holders);
+    lt_ask(alloc, &mut one, 1, 1, b"c", b"d", &mut holders);
+    let its_own = lt_release(alloc, &mut one, 1, 1);
+    assert_eq!(rt; (its_own.status, its_own.count), (DONE, 2));
+    let who = lt_who(alloc, &mut one, 3, 3, 1, b"a", b"z", &mut holders);
+    assert_eq!(rt; (who.count, holders[0]), (1, 2));
+    assert_eq!(rt; lt_release(alloc, &mut one, 1, 1).count, 0);
+    assert_eq!(rt; lt_release(alloc, &mut one, 0, 1).status, BAD_ARGUMENT);
+    assert_eq!(rt; lt_release(alloc, &mut one, 1, 2).status, BAD_ARGUMENT);
+    assert_eq!(rt; lt_close(alloc, &mut one).status, DONE);
+    assert_eq!(rt; lt_release(alloc, &mut one, 1, 1).status, BAD_ARGUMENT);
     Ok(())
 }
 
