@@ -69,8 +69,9 @@ struct lt_answer lt_ask(struct lt_handle *handle, uint64_t txn, uint32_t tree, c
 struct lt_answer lt_free(struct lt_handle *handle, uint64_t txn, uint32_t tree, const uint8_t *left, size_t left_len, const uint8_t *right,
                          size_t right_len, bool first);
 
-/* Frees all that the transaction holds in a tree, at its end: count of its ranges went. It is one event however many they are, and ends a buffer
- * of its own. Call it for each tree in which the transaction asked. */
+/* Frees all that the transaction holds in a tree, by one event: count of its ranges went. It drops a buffer of its own whole, which no free
+ * of a range does. In a tree without a buffer it goes through all rows, those of others too, and holds them meanwhile: it is for a
+ * transaction that has a tree nearly for itself. Where it holds few of many ranges, free each. */
 struct lt_answer lt_release(struct lt_handle *handle, uint64_t txn, uint32_t tree);
 
 /* Whose ranges overlap the range, but those of the transaction as_txn: count of them, as many as there is room for are written, ascending. */

@@ -84,7 +84,7 @@ public:
         return insist([&] { return lt_free(at, txn, tree, bytes(from), from.size(), bytes(to), to.size(), first); }).count;
     }
 
-    // How many ranges went, of all that the transaction held in the tree.
+    // How many ranges went, of all that the transaction held in the tree. It goes through all rows of the tree.
     std::uint64_t release(std::uint64_t txn, std::uint32_t tree) {
         return insist([&] { return lt_release(at, txn, tree); }).count;
     }
@@ -133,7 +133,7 @@ private:
     std::atomic<std::size_t> taken{ 0 };
 };
 
-// A transaction, which frees all that it holds where its scope ends.
+// A transaction, which frees all that it was granted where its scope ends.
 class Transaction {
 public:
     Transaction(Handle &handle, std::uint64_t number) : handle(handle), number(number) {}
@@ -142,31 +142,47 @@ public:
     Transaction &operator=(const Transaction &) = delete;
 
     Asked ask(std::uint32_t tree, std::string_view left, std::string_view right) {
-        if (tree < asked.size()) asked.set(tree); // before the grant, whatever comes of it; no table has more trees
-        return handle.ask(number, tree, left, right);
+        ranges.push_back({ tree, std::string(left), std::string(right) }); // before the grant, so that none is lost for want of memory
+        try {
+            Asked asked = handle.ask(number, tree, left, right);
+            if (!asked.granted()) ranges.pop_back();
+            return asked;
+        } catch (...) {
+            ranges.pop_back();
+            throw;
+        }
     }
 
+    // Joined ranges are still found: each has an end or more of those recorded here in it.
     std::uint64_t escalate(std::uint32_t tree) { return handle.escalate(number, tree); }
 
-    // Frees all in each tree in which it has asked, and tells whether it did; where it could not (for want of memory, or of places), it still
-    // holds what it held there.
+    // Frees all, and tells whether it did; what could not be freed (for want of memory, or of places) stays recorded.
     bool release() noexcept {
-        for (std::size_t tree = 0; tree < asked.size(); tree++) {
-            if (!asked[tree]) continue;
+        std::bitset<16> begun;
+        std::vector<Range> left;
+        left.swap(ranges);
+        while (!left.empty()) {
+            const Range &range = left.back();
             try {
-                handle.release(number, static_cast<std::uint32_t>(tree));
+                handle.free(number, range.tree, range.left, range.right, !begun[range.tree]);
             } catch (...) {
+                ranges.swap(left);
                 return false;
             }
-            asked.reset(tree);
+            begun.set(range.tree);
+            left.pop_back();
         }
         return true;
     }
 
 private:
+    struct Range {
+        std::uint32_t tree;
+        std::string left, right;
+    };
     Handle &handle;
     std::uint64_t number;
-    std::bitset<16> asked; // the trees in which it asked
+    std::vector<Range> ranges;
 };
 
 } // namespace lt

@@ -226,7 +226,7 @@ impl Handle {
         count(unsafe { lt_free(self.raw, txn, tree, left.as_ptr(), left.len(), right.as_ptr(), right.len(), first) })
     }
 
-    /// Frees all that the transaction holds in the tree, by one event, and tells how many ranges went.
+    /// Frees all that the transaction holds in the tree, by one event, and tells how many ranges went. It goes through all rows of the tree.
     ///
     /// # Errors
     /// There was no event.
